@@ -1,0 +1,6 @@
+pub mod Between
+pub mod Splitting
+pub mod AxiomWords
+pub mod DocumentLaws
+pub mod TableLaws
+pub mod RunLaws

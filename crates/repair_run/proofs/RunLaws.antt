@@ -1,0 +1,194 @@
+-- How a run ends, clause by clause.
+use Rattle.std.proofs.Common.{◌≡◌, ◌⊎◌, ℕ, ◌≤◌, Bool, List, ◌++◌, length, take, Option, Some, None, IfSome, inl, inr, refl, sym, ◌∙◌, ap, subst, arith, ⊎_elim}
+use Rattle.io_edge.specs.Outside.{Files, Rose, with_file}
+use Rattle.io_edge.specs.declared.outside.Role.{Role}
+use Rattle.io_edge.specs.declared.outside.Target.TheVariants as Target
+use Rattle.repair_run.specs.declared.first_form.DocumentText.{DocumentText}
+use Rattle.repair_run.specs.declared.first_form.TableText.{TableText}
+use Rattle.repair_run.specs.declared.status.Status.{Status}
+use Rattle.repair_run.specs.declared.status.Status.TheVariants as Status
+use Rattle.repair_run.specs.FirstForm.{repaired_text}
+use Rattle.repair_run.specs.Status.{refusal_line}
+use Rattle.repair_run.specs.Words.{FileNames, name_of}
+use Rattle.repair_run.specs.Plan.{Plan, Refused, plan, Ready, IsLoaded}
+use Rattle.repair_run.specs.Run.{Texts, Kept, Outcome, out_text, summary_of, summary_text, kept_count, IsDone, IsWritten, IsTorn, IsPutShort, IsReady, IsStop, IsQuiet, FilesStand, OutputStands, IsLinePut, IsWriteStop, IsOrMemory, IsOrReadStop}
+
+-- what is known where the files are told
+pub told : (o : Option Files) (P : Files → Type 0) → ((files : Files) → o ≡ Some files → P files) → IfSome o P
+told None P h = tt
+told (Some files) P h = h files refl
+
+pub use_told : (o : Option Files) (P : Files → Type 0) (files : Files) → o ≡ Some files → IfSome o P → P files
+use_told o P files e h = subst (λ (q : Option Files). IfSome q P) e h
+
+-- the line of an answer, whole
+pub line_whole : (got_old got_new : Option (List ℕ)) (puts_old puts_new : ℕ) (s : Status) → IfSome got_old (λ got. got_new ≡ Some (got ++ refusal_line s)) → OutputStands got_old got_new puts_old puts_new s
+line_whole None got_new puts_old puts_new Status.Done h = tt
+line_whole None got_new puts_old puts_new Status.Words h = tt
+line_whole None got_new puts_old puts_new (Status.Incoherent part class) h = tt
+line_whole None got_new puts_old puts_new (Status.ReadFault file) h = tt
+line_whole None got_new puts_old puts_new (Status.WriteFault Target.Out) h = tt
+line_whole None got_new puts_old puts_new (Status.WriteFault Target.Evidence) h = tt
+line_whole None got_new puts_old puts_new (Status.WriteFault Target.Output) h = tt
+line_whole None got_new puts_old puts_new Status.OutOfMemory h = tt
+line_whole None got_new puts_old puts_new (Status.Unbuilt file) h = tt
+line_whole (Some got) got_new puts_old puts_new Status.Done h = tt
+line_whole (Some got) got_new puts_old puts_new Status.Words h = inl h
+line_whole (Some got) got_new puts_old puts_new (Status.Incoherent part class) h = inl h
+line_whole (Some got) got_new puts_old puts_new (Status.ReadFault file) h = inl h
+line_whole (Some got) got_new puts_old puts_new (Status.WriteFault Target.Out) h = inl h
+line_whole (Some got) got_new puts_old puts_new (Status.WriteFault Target.Evidence) h = inl h
+line_whole (Some got) got_new puts_old puts_new (Status.WriteFault Target.Output) h = tt
+line_whole (Some got) got_new puts_old puts_new Status.OutOfMemory h = (20, h)
+line_whole (Some got) got_new puts_old puts_new (Status.Unbuilt file) h = inl h
+
+-- what was read and what is written, where the files are told
+module _ (o : Option Files) (names : FileNames) (left right : DocumentText) (table : TableText) (loaded : IsLoaded o names left right table) where
+  abbrev texts : (files : Files) → o ≡ Some files → Texts files names
+  texts files e = record { left = left; right = right; table = table; ready = use_told o (λ f. plan f names ≡ Ready left right table) files e loaded }
+
+  module _ (keep : List Bool) (inert : ℕ) (each : length keep ≡ length table.rows) (text line : List ℕ) (writes : text ≡ repaired_text table keep) (says : line ≡ summary_text (length table.rows) (kept_count keep) inert) where
+    abbrev outcome : (files : Files) → o ≡ Some files → Outcome files names
+    outcome files e = record { texts = texts files e; rows = record { keep = keep; inert = inert; each_row = each } }
+
+    pub done : (new : Option Files) (got_old got_new : Option (List ℕ)) → IfSome o (λ files. new ≡ Some (with_file files names.out text)) → IfSome got_old (λ got. got_new ≡ Some (got ++ line)) → IsDone o new got_old got_new names
+    done new got_old got_new written put = told o _ (λ files e. (
+      outcome files e,
+      use_told o (λ f. new ≡ Some (with_file f names.out text)) files e written ∙ ap {B = Option Files} (λ (t : List ℕ). Some (with_file files names.out t)) writes,
+      subst (λ (t : List ℕ). IfSome got_old (λ got. got_new ≡ Some (got ++ t))) says put,
+    ))
+
+    written_whole : (new : Option Files) → IfSome o (λ files. new ≡ Some (with_file files names.out text)) → IsWritten o new names
+    written_whole new written = told o _ (λ files e. (
+      outcome files e,
+      use_told o (λ f. new ≡ Some (with_file f names.out text)) files e written ∙ ap {B = Option Files} (λ (t : List ℕ). Some (with_file files names.out t)) writes,
+    ))
+
+    written_torn : (new : Option Files) → IfSome o (λ files. (new ≡ Some files) ⊎ ((count : ℕ) × (new ≡ Some (with_file files names.out (take count text))))) → IsTorn o new names
+    written_torn new written = told o _ (λ files e. (
+      outcome files e,
+      subst (λ (t : List ℕ). (new ≡ Some files) ⊎ ((count : ℕ) × (new ≡ Some (with_file files names.out (take count t))))) writes
+          (use_told o (λ f. (new ≡ Some f) ⊎ ((count : ℕ) × (new ≡ Some (with_file f names.out (take count text))))) files e written),
+    ))
+
+    put_short : (got_old got_new : Option (List ℕ)) → IfSome got_old (λ got. (count : ℕ) × (got_new ≡ Some (got ++ take count line))) → IsPutShort o got_old got_new names
+    put_short got_old got_new put = told o _ (λ files e. (
+      outcome files e,
+      subst (λ (t : List ℕ). IfSome got_old (λ got. (count : ℕ) × (got_new ≡ Some (got ++ take count t)))) says put,
+    ))
+
+    module _ (new : Option Files) (writes_old writes_new : ℕ) (got_old got_new : Option (List ℕ)) (p q : ℕ) where
+      abbrev Stops : Status → Type 0
+      Stops s = IsWriteStop o new writes_old writes_new got_old got_new p q names.out text line s
+
+      pub write_files : (w v : ℕ) (s : Status) → Stops s → FilesStand o new w v names s
+      write_files w v (Status.WriteFault Target.Out) h = written_torn new h.1
+      write_files w v (Status.WriteFault Target.Output) h = written_whole new h.1
+      write_files w v (Status.WriteFault Target.Evidence) h = absurd h
+      write_files w v Status.OutOfMemory h = ⊎_elim inl (λ whole. inr (inl (written_whole new whole))) h.0
+      write_files w v Status.Done h = absurd h
+      write_files w v Status.Words h = absurd h
+      write_files w v (Status.Incoherent part class) h = absurd h
+      write_files w v (Status.ReadFault file) h = absurd h
+      write_files w v (Status.Unbuilt file) h = absurd h
+
+      pub write_quiet : (s : Status) → Stops s → IsQuiet o got_old got_new p q names s
+      write_quiet (Status.WriteFault Target.Out) h = (h.2, h.3)
+      write_quiet (Status.WriteFault Target.Output) h = put_short got_old got_new h.2
+      write_quiet (Status.WriteFault Target.Evidence) h = absurd h
+      write_quiet Status.OutOfMemory h = h.1
+      write_quiet Status.Done h = absurd h
+      write_quiet Status.Words h = absurd h
+      write_quiet (Status.Incoherent part class) h = absurd h
+      write_quiet (Status.ReadFault file) h = absurd h
+      write_quiet (Status.Unbuilt file) h = absurd h
+
+-- a done run has written OUT
+pub done_files : (o new : Option Files) (got_old got_new : Option (List ℕ)) (w v : ℕ) (names : FileNames) → IsDone o new got_old got_new names → FilesStand o new w v names Status.Done
+done_files None new got_old got_new w v names h = tt
+done_files (Some files) new got_old got_new w v names h = (h.0, h.1)
+
+-- where the plan refuses a file, a run that stops says so, or a fault of a read or want of memory came first
+ready_refused : (role : Role) (left right : DocumentText) (table : TableText) (p : Plan) → p ≡ Ready left right table → p ≡ Refused role → ⊥
+ready_refused role left right table p e f = let h : Ready left right table ≡ Refused role = sym e ∙ f in cc
+
+same_role : (a b : Role) (p : Plan) → p ≡ Refused a → p ≡ Refused b → a ≡ b
+same_role a b p e f = let h : Refused a ≡ Refused b = sym e ∙ f in cc
+
+refused_texts : (files : Files) (names : FileNames) (role : Role) → plan files names ≡ Refused role → Texts files names → ⊥
+refused_texts files names role e t = ready_refused role t.left t.right t.table (plan files names) t.ready e
+
+pub refused_stop : (files : Files) (a b c d : List ℕ → ℕ) (p q : ℕ) (names : FileNames) (role : Role) (s : Status) → plan files names ≡ Refused role → IsStop (Some files) a b c d p q names s → IsOrReadStop (Status.Unbuilt role) s
+refused_stop files a b c d p q names role (Status.ReadFault file) e h = inr (inl (file, refl))
+refused_stop files a b c d p q names role (Status.Unbuilt file) e h = inl (ap {B = Status} (λ (r : Role). Status.Unbuilt r) (same_role file role (plan files names) h e))
+refused_stop files a b c d p q names role Status.OutOfMemory e h = inr (inr refl)
+refused_stop files a b c d p q names role (Status.Incoherent part class) e h = absurd (refused_texts files names role e h)
+refused_stop files a b c d p q names role (Status.WriteFault Target.Out) e h = absurd (refused_texts files names role e h.1)
+refused_stop files a b c d p q names role (Status.WriteFault Target.Output) e h = absurd (refused_texts files names role e h.1)
+refused_stop files a b c d p q names role (Status.WriteFault Target.Evidence) e h = absurd h
+refused_stop files a b c d p q names role Status.Done e h = absurd h
+refused_stop files a b c d p q names role Status.Words e h = absurd h
+
+or_memory : (answer s s' : Status) → IsOrMemory s s' → IsOrReadStop answer s → IsOrReadStop answer s'
+or_memory answer s s' m h = ⊎_elim (λ e. subst (IsOrReadStop answer) (sym e) h) (λ e. inr (inr e)) m
+
+pub unbuilt_answer : (o : Option Files) (a b c d : List ℕ → ℕ) (p q : ℕ) (names : FileNames) (role : Role) (s s' : Status) → IsStop o a b c d p q names s → IsOrMemory s s' → IfSome o (λ files. plan files names ≡ Refused role → IsOrReadStop (Status.Unbuilt role) s')
+unbuilt_answer None a b c d p q names role s s' h m = tt
+unbuilt_answer (Some files) a b c d p q names role s s' h m = λ e. or_memory (Status.Unbuilt role) s s' m (refused_stop files a b c d p q names role s e h)
+
+-- the files stand after want of memory in place of another answer
+memory_files : (o new : Option Files) (a b c d : List ℕ → ℕ) (p q : ℕ) (names : FileNames) (s : Status) → IsStop o a b c d p q names s → FilesStand o new (c names.out) (d names.out) names s → FilesStand o new (c names.out) (d names.out) names Status.OutOfMemory
+memory_files o new a b c d p q names Status.Done h f = absurd h
+memory_files o new a b c d p q names Status.Words h f = absurd h
+memory_files o new a b c d p q names (Status.Incoherent part class) h f = inl f
+memory_files o new a b c d p q names (Status.ReadFault file) h f = inl f
+memory_files o new a b c d p q names (Status.WriteFault Target.Out) h f = inr (inr (h.0, f))
+memory_files o new a b c d p q names (Status.WriteFault Target.Evidence) h f = absurd h
+memory_files o new a b c d p q names (Status.WriteFault Target.Output) h f = inr (inl f)
+memory_files o new a b c d p q names Status.OutOfMemory h f = f
+memory_files o new a b c d p q names (Status.Unbuilt file) h f = inl f
+
+pub refused_files : (o new : Option Files) (a b c d : List ℕ → ℕ) (p q : ℕ) (names : FileNames) (s s' : Status) → IsStop o a b c d p q names s → FilesStand o new (c names.out) (d names.out) names s → IsOrMemory s s' → FilesStand o new (c names.out) (d names.out) names s'
+refused_files o new a b c d p q names s s' h f m =
+    let stands = λ (x : Status). FilesStand o new (c names.out) (d names.out) names x in
+    ⊎_elim (λ e. subst stands (sym e) f) (λ e. subst stands (sym e) (memory_files o new a b c d p q names s h f)) m
+
+-- the line that was put stands behind what the output had at first
+module _ (o : Option Files) (got_old got_mid got_new : Option (List ℕ)) (p m q : ℕ) (names : FileNames) where
+  at_memory : got_mid ≡ got_old → OutputStands got_mid got_new m q Status.OutOfMemory → OutputStands got_old got_new p q Status.OutOfMemory
+  at_memory e h = subst (λ (g : Option (List ℕ)). OutputStands g got_new p q Status.OutOfMemory) e h
+
+  both : (s : Status) → (got_mid ≡ got_old) × (m ≡ p) → OutputStands got_mid got_new m q s → OutputStands got_old got_new p q s
+  both s e h = subst (λ (g : Option (List ℕ)). OutputStands g got_new p q s) e.0 (subst (λ (n : ℕ). OutputStands got_mid got_new n q s) e.1 h)
+
+  same_output : (s : Status) → IsQuiet o got_old got_mid p m names s → OutputStands got_mid got_new m q s → OutputStands got_old got_new p q s
+  same_output Status.Done k h = tt
+  same_output Status.Words k h = both Status.Words k h
+  same_output (Status.Incoherent part class) k h = both (Status.Incoherent part class) k h
+  same_output (Status.ReadFault file) k h = both (Status.ReadFault file) k h
+  same_output (Status.WriteFault Target.Out) k h = both (Status.WriteFault Target.Out) k h
+  same_output (Status.WriteFault Target.Evidence) k h = both (Status.WriteFault Target.Evidence) k h
+  same_output (Status.WriteFault Target.Output) k h = tt
+  same_output Status.OutOfMemory k h = at_memory k h
+  same_output (Status.Unbuilt file) k h = both (Status.Unbuilt file) k h
+
+  memory_output : (s : Status) → IsQuiet o got_old got_mid p m names s → (s ≡ Status.WriteFault Target.Output → ⊥) → OutputStands got_mid got_new m q Status.OutOfMemory → OutputStands got_old got_new p q Status.OutOfMemory
+  memory_output Status.Done k n h = at_memory k.0 h
+  memory_output Status.Words k n h = at_memory k.0 h
+  memory_output (Status.Incoherent part class) k n h = at_memory k.0 h
+  memory_output (Status.ReadFault file) k n h = at_memory k.0 h
+  memory_output (Status.WriteFault Target.Out) k n h = at_memory k.0 h
+  memory_output (Status.WriteFault Target.Evidence) k n h = at_memory k.0 h
+  memory_output (Status.WriteFault Target.Output) k n h = absurd (n refl)
+  memory_output Status.OutOfMemory k n h = at_memory k h
+  memory_output (Status.Unbuilt file) k n h = at_memory k.0 h
+
+  pub refused_output : (s s' : Status) → IsQuiet o got_old got_mid p m names s → IsOrMemory s s' → (s ≡ Status.WriteFault Target.Output → s' ≡ s) → OutputStands got_mid got_new m q s' → OutputStands got_old got_new p q s'
+  refused_output s s' k or_other same h = ⊎_elim
+      (λ e. subst (λ (x : Status). OutputStands got_old got_new p q x) (sym e) (same_output s k (subst (λ (x : Status). OutputStands got_mid got_new m q x) e h)))
+      (λ e. subst (λ (x : Status). OutputStands got_old got_new p q x) (sym e)
+      (memory_output s k (λ f. other s s' e f (same f)) (subst (λ (x : Status). OutputStands got_mid got_new m q x) e h)))
+      or_other
+    where
+      other : (s s' : Status) → s' ≡ Status.OutOfMemory → s ≡ Status.WriteFault Target.Output → s' ≡ s → ⊥
+      other s s' e f g = let h : Status.OutOfMemory ≡ Status.WriteFault Target.Output = sym e ∙ g ∙ f in cc

@@ -1,0 +1,6 @@
+pub mod FirstForm
+pub mod Reading
+pub mod Status
+pub mod Words
+pub mod Plan
+pub mod Run

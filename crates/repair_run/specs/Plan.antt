@@ -1,0 +1,82 @@
+-- What a run does with its files, as far as their bytes decide it: the first refusal, or what is read.
+use Rattle.std.specs.Prelude.{◌≡◌, ℕ, ◌≤◌, nat_le, if◌then◌else◌, List, length, Option, Some, None, IfSome, ⊤}
+use Rattle.io_edge.specs.Outside.{Files, Rose, IsLonger}
+use Rattle.io_edge.specs.declared.outside.Role.{Role}
+use Rattle.io_edge.specs.declared.outside.Role.TheVariants as Role
+use Rattle.repair_run.specs.declared.first_form.DocumentText.{DocumentText}
+use Rattle.repair_run.specs.declared.first_form.TableText.{TableText}
+use Rattle.repair_run.specs.declared.status.Status.{Status}
+use Rattle.repair_run.specs.declared.status.Status.TheVariants as Status
+use Rattle.repair_run.specs.Reading.{document_of, table_of}
+use Rattle.repair_run.specs.Words.{FileNames, name_of}
+
+-- a file is at most so long
+abbrev pub max_bytes : ℕ
+max_bytes = 65536
+
+pub data Plan : Type 0 where
+  Missing : Role → Plan
+  Refused : Role → Plan
+  Ready : (left right : DocumentText) (table : TableText) → Plan
+
+-- goes on with a file that is there and not too long
+abbrev pub sized : Option (List ℕ) → Role → (List ℕ → Plan) → Plan
+sized None role next = Missing role
+sized (Some bytes) role next = if nat_le (length bytes) max_bytes then next bytes else Refused role
+
+-- goes on with a text that is of the first form
+abbrev pub formed : {A : Type 0} → Option A → Role → (A → Plan) → Plan
+formed None role next = Refused role
+formed (Some a) role next = next a
+
+abbrev pub plan_of_texts : List ℕ → List ℕ → List ℕ → Plan
+plan_of_texts left right map =
+    formed (document_of left) Role.Left (λ l. formed (document_of right) Role.Right (λ r. formed (table_of map) Role.Map (λ t. Ready l r t)))
+
+-- LEFT, RIGHT and MAP are read in this order, and then their forms are looked at in the same order
+abbrev pub plan : Files → FileNames → Plan
+plan files names =
+    sized (files names.left) Role.Left (λ left. sized (files names.right) Role.Right (λ right. sized (files names.map) Role.Map (plan_of_texts left right)))
+
+-- a file was read whole
+abbrev pub IsRead : Option Files → List ℕ → List ℕ → Type 0
+IsRead told name bytes = (length bytes ≤ max_bytes) × IfSome told (λ files. files name ≡ Some bytes)
+
+-- why a file was not read
+abbrev pub IsReadStop : Option Files → ℕ → ℕ → List ℕ → Role → Status → Type 0
+IsReadStop told before now name role (Status.ReadFault file) = (file ≡ role) × Rose before now
+IsReadStop told before now name role (Status.Unbuilt file) = (file ≡ role) × IfSome told (λ files. IsLonger (files name) max_bytes)
+IsReadStop told before now name role Status.OutOfMemory = ⊤
+IsReadStop told before now name role _ = ⊥
+
+-- the file is there and not too long
+abbrev pub IsShort : Option (List ℕ) → Type 0
+IsShort None = ⊥
+IsShort (Some bytes) = length bytes ≤ max_bytes
+
+-- the files that are read before this one were read
+abbrev pub IsReached : Files → FileNames → Role → Type 0
+IsReached files names Role.Left = ⊤
+IsReached files names Role.Right = IsShort (files names.left)
+IsReached files names _ = IsShort (files names.left) × IsShort (files names.right)
+
+-- the plan hangs on these three texts
+abbrev pub IsPlanOf : Option Files → FileNames → List ℕ → List ℕ → List ℕ → Type 0
+IsPlanOf told names left right map = IfSome told (λ files. plan files names ≡ plan_of_texts left right map)
+
+-- the three files are as the plan says
+abbrev pub IsLoaded : Option Files → FileNames → DocumentText → DocumentText → TableText → Type 0
+IsLoaded told names left right table = IfSome told (λ files. plan files names ≡ Ready left right table)
+
+-- why a text was not taken
+abbrev pub IsTextStop : List ℕ → List ℕ → List ℕ → Status → Type 0
+IsTextStop left right map (Status.Unbuilt file) = plan_of_texts left right map ≡ Refused file
+IsTextStop left right map Status.OutOfMemory = ⊤
+IsTextStop left right map _ = ⊥
+
+-- why the three files were not all read and taken: a fault counts for the file that was to be read
+abbrev pub IsLoadStop : Option Files → (List ℕ → ℕ) → (List ℕ → ℕ) → FileNames → Status → Type 0
+IsLoadStop told before now names (Status.ReadFault file) = Rose (before (name_of names file)) (now (name_of names file)) × IfSome told (λ files. IsReached files names file)
+IsLoadStop told before now names (Status.Unbuilt file) = IfSome told (λ files. plan files names ≡ Refused file)
+IsLoadStop told before now names Status.OutOfMemory = ⊤
+IsLoadStop told before now names _ = ⊥
