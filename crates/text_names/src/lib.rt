@@ -2,7 +2,11 @@
 #![tactic(auto)]
 
 mod bytes;
+mod limits;
+mod place;
 mod text;
 
 pub use bytes::Bytes;
+pub use limits::Limits;
+pub use place::{Place, place_of};
 pub use text::{Text, TextFault};
