@@ -1,2 +1,4 @@
 pub mod Text
 pub mod Place
+pub mod Entries
+pub mod Prefixes

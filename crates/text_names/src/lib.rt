@@ -4,9 +4,11 @@
 mod bytes;
 mod limits;
 mod place;
+mod prefixes;
 mod text;
 
 pub use bytes::Bytes;
 pub use limits::Limits;
 pub use place::{Place, place_of};
+pub use prefixes::{PrefixFault, PrefixMap};
 pub use text::{Text, TextFault};
