@@ -2,7 +2,15 @@
 #![tactic(auto)]
 
 mod bytes;
+mod limits;
+mod names;
+mod place;
+mod prefixes;
 mod text;
 
 pub use bytes::Bytes;
+pub use limits::Limits;
+pub use names::{NameFault, NameTable};
+pub use place::{Place, place_of};
+pub use prefixes::{PrefixFault, PrefixMap};
 pub use text::{Text, TextFault};

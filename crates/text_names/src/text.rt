@@ -1,4 +1,4 @@
-ghost use Rattle.std.specs.Prelude.{◌≡◌, IfOk, IsUtf8};
+ghost use Rattle.std.specs.Prelude.{◌≡◌, ◌++◌, IfOk, IsUtf8};
 
 use std::alloc::{AllocError, Global};
 use std::marker::Model;
@@ -66,6 +66,34 @@ impl Text {
         Ok(Text {
             text: String::from_str(alloc, self.text.as_str())?,
         })
+    }
+
+    pub(crate) fn from_str(alloc: Global, text: &str) -> Result<Text, AllocError>
+        ensures { IfOk result (λ copy. copy ≡ text.now) }
+    {
+        Ok(Text {
+            text: String::from_str(alloc, text)?,
+        })
+    }
+
+    pub(crate) fn joined(alloc: Global, front: &str, back: &str) -> Result<Text, AllocError>
+        ensures { IfOk result (λ whole. whole ≡ front.now ++ back.now) }
+    {
+        let mut text = String::with_capacity(alloc, front.len().saturating_add(back.len()))?;
+        text.push_str(front)?;
+        text.push_str(back)?;
+        Ok(Text { text })
+    }
+}
+
+// Bytes that are known to be UTF-8.
+pub(crate) fn utf8_str(bytes: &[u8]) -> &str
+    requires { IsUtf8 bytes.now }
+    ensures { result.now ≡ bytes.now }
+{
+    match str::from_utf8(bytes) {
+        Ok(text) => text,
+        Err(_) => unreachable!(),
     }
 }
 

@@ -1,0 +1,30 @@
+-- Names in the order of their numbers.
+use Rattle.std.specs.Prelude.{◌≡◌, ℕ, ◌<◌, Bool, true, false, if◌then◌else◌, List, [], ◌∷◌, ◌++◌, length, Option, is_some, position, bytes_eq}
+use Rattle.std.specs.List.{position_or_len}
+use Rattle.text_names.specs.declared.names.NameFault.{NameFault}
+use Rattle.text_names.specs.declared.names.NameFault.TheVariants as fault
+
+-- the names of a table, which stand at their numbers, and how many it may hold
+pub record Numbering : Type 0 where
+  pub names : List (List ℕ)
+  pub most : ℕ
+
+-- the number of a name that is held
+abbrev pub number_of : List (List ℕ) → List ℕ → Option ℕ
+number_of names name = position (bytes_eq name) names
+
+abbrev pub is_held : List (List ℕ) → List ℕ → Bool
+is_held names name = is_some (number_of names name)
+
+-- the number of a name that is held, or the next number
+abbrev pub number_or_next : List (List ℕ) → List ℕ → ℕ
+number_or_next names name = position_or_len (bytes_eq name) names
+
+-- these names and one more, unless it is held
+abbrev pub with_name : List (List ℕ) → List ℕ → List (List ℕ)
+with_name names name = if is_held names name then names else names ++ name ∷ []
+
+-- why a name has no number: memory is short only where there is room for a new name
+abbrev pub IsNameFault : Numbering → List ℕ → NameFault → Type 0
+IsNameFault table name fault.Full = (is_held table.names name ≡ false) × (length table.names ≡ table.most)
+IsNameFault table name fault.OutOfMemory = (is_held table.names name ≡ false) × (length table.names < table.most)

@@ -1,0 +1,24 @@
+-- Where in a text a front of it ends.
+use Rattle.std.specs.Prelude.{ℕ, ◌+◌, ◌-◌, ◌^◌, ◌==◌, Bool, List, length, min, count_by}
+use Rattle.std.specs.List.{after_last}
+use Rattle.std.specs.Str.{chars}
+use Rattle.text_names.specs.declared.place.Place.{Place}
+
+abbrev pub is_line_feed : ℕ → Bool
+is_line_feed c = c == 10
+
+-- a number in 64 bits, which stops at the greatest
+abbrev pub in_64_bits : ℕ → ℕ
+in_64_bits n = min n (2 ^ 64 - 1)
+
+-- the line behind these characters: one more than the line feeds among them
+abbrev pub line_after : List ℕ → ℕ
+line_after cs = 1 + count_by is_line_feed cs
+
+-- the column behind these characters: one more than those since the last line feed
+abbrev pub column_after : List ℕ → ℕ
+column_after cs = 1 + length (after_last is_line_feed cs)
+
+-- the place behind the bytes of a text, counted in its characters
+abbrev pub place_after : List ℕ → Place
+place_after bytes = record { line = in_64_bits (line_after (chars bytes)); column = in_64_bits (column_after (chars bytes)) }
