@@ -1,8 +1,8 @@
-ghost use Rattle.std.specs.Prelude.{◌≡◌, [], ◌∷◌, ◌++◌, ℕ, ◌<◌, ◌-◌, ◌^◌, ◌≤◌, Contains, Some, None, OnOk, OnErr};
+ghost use Rattle.std.specs.Prelude.{◌≡◌, ◌<◌, ◌≤◌, ◌-◌, ◌^◌, [], ◌∷◌, ◌++◌, Contains, Some, None, OnOk, OnErr};
 ghost use Rattle.std.specs.Option.{option_copied};
 ghost use Rattle.io_edge.specs.Files.{files_in};
 ghost use Rattle.io_edge.specs.Faults.{count_after, faults_after_read, faults_after_write, faults_after_put};
-ghost use Rattle.io_edge.specs.Outside.{NeverFall, ReadAnswers, WriteAnswers, PutAnswers, with_file};
+ghost use Rattle.io_edge.specs.Outside.{ReadAnswers, WriteAnswers, PutAnswers, with_file};
 
 use crate::schedule::Schedule;
 use crate::{Folder, PutAnswer, ReadAnswer, Sink, WriteAnswer};

@@ -1,7 +1,7 @@
-ghost use Rattle.std.specs.Prelude.{◌≡◌, ℕ, ◌<◌, ◌-◌, ◌^◌, ◌≤◌, ◌++◌, length, vec_len, None, IfOk, IfErr, IfSome, OnOk};
+ghost use Rattle.std.specs.Prelude.{◌≡◌, ◌<◌, ◌-◌, ◌^◌, ◌≤◌, length, vec_len, None, IfOk, IfSome, OnOk};
 ghost use Rattle.std.specs.Io.KnownBytes.{Appends};
-ghost use Rattle.io_edge.specs.Faults.{count_after, faults_after_read, faults_after_write, faults_after_put};
-ghost use Rattle.io_edge.specs.Outside.{NeverFall, ReadAnswers, WriteAnswers, PutAnswers};
+ghost use Rattle.io_edge.specs.Faults.{faults_after_read, faults_after_write, faults_after_put};
+ghost use Rattle.io_edge.specs.Outside.{ReadAnswers, WriteAnswers, PutAnswers};
 
 use crate::{Folder, PutAnswer, ReadAnswer, Sink, WriteAnswer};
 use std::alloc::Global;
