@@ -132,6 +132,7 @@ impl Folder for MemFolder {
         }
     }
 
+    #[tactic(auto, using(crate::proofs::FileLemmas::failed_write))]
     fn write(&mut self, alloc: Global, name: &Text, bytes: &[u8]) -> WriteAnswer
         ensures answer { WriteAnswers (Some (files_of self.old)) (Some (files_of self.new)) (faults_of self.old) (faults_of self.new) name.now bytes.now result }
         ensures later { faults_of self.old ≤ faults_of self.new }
