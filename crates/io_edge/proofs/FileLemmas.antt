@@ -10,8 +10,8 @@ use Rattle.io_edge.specs.Outside.{Files, with_file, Rose, WriteAnswers}
 use Rattle.io_edge.specs.declared.outside.WriteAnswer.TheVariants.{Failed}
 
 -- what an insert at a key leaves, by the key's bytes
-pub files_in-insert : {A : Type 0} (old new : BTreeMap (String A) (List ℕ)) (key : String A) (name bytes : List ℕ) → Updates string_cmp old new key (Some bytes) → string_bytes key ≡ name → files_in new ≡ with_file (files_in old) name bytes
-files_in-insert old new key name bytes updates same =
+pub inserted_file : {A : Type 0} (old new : BTreeMap (String A) (List ℕ)) (key : String A) (name bytes : List ℕ) → Updates string_cmp old new key (Some bytes) → string_bytes key ≡ name → files_in new ≡ with_file (files_in old) name bytes
+inserted_file old new key name bytes updates same =
     rw (← same) (fun_ext (λ other. btree_map_updates_text (string_bytes key) old new (Some bytes) updates other))
 
 -- a failed write that left all files

@@ -8,8 +8,8 @@ use Rattle.std.proofs.KnownBytes.{Appends-trans}
 use Rattle.std.specs.Io.KnownBytes.{Appends}
 
 -- it has got the longer front
-pub Appends-take : (old mid new : Option (List ℕ)) (bytes : List ℕ) (written count : ℕ) → Appends old mid (take written bytes) → Appends mid new (take count (take (length bytes - written) (drop written bytes))) → Appends old new (take (written + count) bytes)
-Appends-take old mid new bytes written count front more =
+pub appends_more : (old mid new : Option (List ℕ)) (bytes : List ℕ) (written count : ℕ) → Appends old mid (take written bytes) → Appends mid new (take count (take (length bytes - written) (drop written bytes))) → Appends old new (take (written + count) bytes)
+appends_more old mid new bytes written count front more =
     rw take-add (Appends-trans old mid new (take written bytes) (take count (drop written bytes)) front (rw take_rest at more))
 
 -- which is no longer than the bytes

@@ -1,7 +1,7 @@
 -- What a folder in memory holds, and what its calls answer.
-use Rattle.std.specs.Prelude.{◌≡◌, ◌⊎◌, ℕ, ◌≤◌, List, length, Option, Some, None, IsSome}
+use Rattle.std.specs.Prelude.{◌≡◌, ℕ, ◌<◌, ◌≤◌, List, length, Option, Some, None}
 use Rattle.io_edge.specs.Files.{files_in}
-use Rattle.io_edge.specs.Outside.{Files, with_file, IsLonger}
+use Rattle.io_edge.specs.Outside.{Files, with_file}
 use Rattle.io_edge.specs.declared.outside.ReadAnswer.{ReadAnswer}
 use Rattle.io_edge.specs.declared.outside.WriteAnswer.{WriteAnswer}
 use Rattle.io_edge.specs.declared.outside.ReadAnswer.TheVariants as Read
@@ -38,10 +38,11 @@ pub record ChangesOnlyFailing (old new : MemFolder) : Type 0 where
 
 -- what a read answers, by the file of this name, where there is one, and by whether the call is one that fails
 abbrev pub AnswersRead : Option (List ℕ) → ℕ → Type 0 → ReadAnswer → Type 0
-AnswersRead file max fails (Read.Whole bytes) = (file ≡ Some bytes) × (length bytes ≤ max) × (¬ fails)
-AnswersRead file max fails Read.TooLong = IsLonger file max
-AnswersRead file max fails Read.Failed = (¬ (IsLonger file max)) × ((file ≡ None) ⊎ fails)
-AnswersRead file max fails Read.OutOfMemory = IsSome file × (¬ (IsLonger file max)) × (¬ fails)
+AnswersRead None max fails answer = answer ≡ Read.Failed
+AnswersRead (Some bytes) max fails (Read.Whole read) = (read ≡ bytes) × (length bytes ≤ max) × (¬ fails)
+AnswersRead (Some bytes) max fails Read.TooLong = max < length bytes
+AnswersRead (Some bytes) max fails Read.Failed = (length bytes ≤ max) × fails
+AnswersRead (Some bytes) max fails Read.OutOfMemory = (length bytes ≤ max) × (¬ fails)
 
 -- what a write answers and leaves, by whether the call is one that fails
 abbrev pub AnswersWrite : Files → Files → List ℕ → List ℕ → Type 0 → WriteAnswer → Type 0

@@ -29,6 +29,7 @@ pub struct MemSink {
 }
 
 // Makes a file hold these bytes.
+#[tactic(auto, using(crate::proofs::FileLemmas::inserted_file))]
 fn insert_file(
     alloc: Global,
     files: &mut BTreeMap<String, Bytes>,

@@ -74,6 +74,7 @@ fn read_whole<R: Read>(alloc: Global, file: &mut R, max: u64) -> Result<Vec<u8>,
 }
 
 // Writes all bytes and flushes. A write that takes none of them is a fault.
+#[tactic(auto, using(crate::proofs::WriteLemmas::appends_more, crate::proofs::WriteLemmas::take_within))]
 fn write_whole<W: Write>(file: &mut W, bytes: &[u8]) -> io::Result<()>
     ensures { OnOk result (Appends (W.contents file.old) (W.contents file.new) bytes.now) }
 {
