@@ -1,1 +1,5 @@
 pub mod Outside
+pub mod Faults
+pub mod Files
+pub mod MemFolder
+pub mod MemSink

@@ -1,6 +1,11 @@
 //! The outside as two traits, files and output, which count their faults: in memory and for real.
 #![tactic(auto)]
 
+mod memory;
 mod outside;
+mod real;
+mod schedule;
 
+pub use memory::{MemFolder, MemSink};
 pub use outside::{Folder, PutAnswer, ReadAnswer, Role, Sink, Target, WriteAnswer};
+pub use real::{RealFolder, StdSink};
