@@ -4,3 +4,4 @@ pub mod AxiomWords
 pub mod DocumentLaws
 pub mod TableLaws
 pub mod RunLaws
+pub mod AsciiLaws

@@ -90,6 +90,14 @@ pub record IsTableText (text : List ℕ) (t : TableText) : Type 0 where
   pub rows : All IsRowText t.rows
   pub spelled : text ≡ table_text t
 
+-- the names and numbers in two documents and a table are of their forms
+pub record AreOfForm (left right : DocumentText) (table : TableText) : Type 0 where
+  pub left_iri : IsTrue (is_iri left.iri)
+  pub left_axioms : All IsAxiomText left.axioms
+  pub right_iri : IsTrue (is_iri right.iri)
+  pub right_axioms : All IsAxiomText right.axioms
+  pub rows : All IsRowText table.rows
+
 -- of the rows those that are to be kept, row by row
 abbrev pub kept_rows : List RowText → List Bool → List RowText
 kept_rows [] keep = []

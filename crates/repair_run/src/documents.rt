@@ -1,5 +1,6 @@
 //! Reading of documents of the first form.
-ghost use Rattle.std.specs.Prelude.{◌≡◌, ◌==◌, ◌+◌, map, length, None, IfOk, MatchOption};
+ghost use Rattle.std.specs.Prelude.{◌≡◌, ◌==◌, ◌+◌, map, length, None, IfOk, IfSome};
+ghost use Rattle.repair_run.specs.FirstForm.{IsDocumentText};
 ghost use Rattle.std.specs.Option.{option_map};
 ghost use Rattle.std.specs.List.{slice_split, before_first, after_first, position_or_len};
 ghost use Rattle.repair_run.specs.Reading.{declared_of, opened_of, closed_of, pair_of, step_of, axioms_in, words_of, body_of, document_of, is_space};
@@ -133,7 +134,8 @@ fn words(alloc: Global, body: &[u8]) -> Result<Vec<&[u8]>, AllocError>
 
 /// The document that a text is, where it is of the first form.
 pub fn read_document(alloc: Global, text: &[u8]) -> Result<Option<DocumentText>, AllocError>
-    ensures { IfOk result (λ found. found ≡ document_of text.now) }
+    ensures spelled { IfOk result (λ found. IfSome found (IsDocumentText text.now)) }
+    ensures value { IfOk result (λ found. found ≡ document_of text.now) }
 {
     let (first, rest) = first_word(text);
     let Some(iri) = iri_between(first, b"Prefix(:=<", b">)") else {

@@ -7,11 +7,13 @@ mod first_form;
 mod laws;
 mod load;
 mod pieces;
+mod plain;
 mod report;
 mod run;
 mod status;
 mod repaired;
 mod tables;
+mod theory;
 mod words;
 
 pub use laws::{documents_are_read_as_spelled, tables_are_read_as_spelled};

@@ -1,7 +1,7 @@
 //! Reading the files of a run.
-ghost use Rattle.std.specs.Prelude.{◌≡◌, IfOk, IfErr, All};
+ghost use Rattle.std.specs.Prelude.{◌≡◌, IfOk, IfErr};
 ghost use Rattle.io_edge.specs.Outside.{NeverFall};
-ghost use Rattle.repair_run.specs.FirstForm.{IsRowText};
+ghost use Rattle.repair_run.specs.FirstForm.{AreOfForm};
 ghost use Rattle.repair_run.specs.Words.{file_names};
 ghost use Rattle.repair_run.specs.Plan.{IsRead, IsReadStop, IsPlanOf, IsLoaded, IsTextStop, IsLoadStop, plan_of_texts, Ready};
 
@@ -74,7 +74,7 @@ fn read_texts<F: Folder>(
 // Looks at the form of each text.
 fn take_texts(alloc: Global, texts: &Texts) -> Result<Loaded, Status>
     ensures ok { IfOk result (λ l. plan_of_texts texts.now.left texts.now.right texts.now.map ≡ Ready l.left l.right l.table) }
-    ensures rows { IfOk result (λ l. All IsRowText l.table.rows) }
+    ensures forms { IfOk result (λ l. AreOfForm l.left l.right l.table) }
     ensures err { IfErr result (IsTextStop texts.now.left texts.now.right texts.now.map) }
 {
     let Some(left) = read_document(alloc, texts.left.as_slice())? else {
@@ -99,7 +99,7 @@ pub fn load<F: Folder>(
     ensures reads { NeverFall (F.read_faults folder.old) (F.read_faults folder.new) }
     ensures writes { NeverFall (F.write_faults folder.old) (F.write_faults folder.new) }
     ensures ok { IfOk result (λ l. IsLoaded (F.files folder.old) (file_names names.now.left.now names.now.right.now names.now.map.now names.now.out.now) l.left l.right l.table) }
-    ensures rows { IfOk result (λ l. All IsRowText l.table.rows) }
+    ensures forms { IfOk result (λ l. AreOfForm l.left l.right l.table) }
     ensures err { IfErr result (IsLoadStop (F.files folder.old) (F.read_faults folder.old) (F.read_faults folder.new) (file_names names.now.left.now names.now.right.now names.now.map.now names.now.out.now)) }
 {
     let texts = read_texts(alloc, folder, names)?;

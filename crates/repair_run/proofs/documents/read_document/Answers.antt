@@ -1,0 +1,9 @@
+use Rattle.std.proofs.Common.{◌≡◌, ℕ, List, Option, Some, None, IfSome, sym, ◌∙◌, rules}
+use Rattle.repair_run.specs.declared.first_form.DocumentText.{DocumentText}
+use Rattle.repair_run.specs.FirstForm.{IsDocumentText}
+use Rattle.repair_run.specs.Reading.{document_of}
+use Rattle.repair_run.proofs.DocumentLaws.{document_sound}
+use Rattle.repair_run.proofs.documents.read_document.Goals as goal
+
+pub returns-clause-spelled : goal.returns-clause-spelled
+returns-clause-spelled c = document_sound c.args.text.now _ (search rules)
