@@ -1,0 +1,47 @@
+// alod LEFT RIGHT MAP OUT: writes to OUT the mapping table MAP between the ontologies LEFT and RIGHT, without the rows
+// that leave a class without any possible member.
+#![tactic(auto)]
+
+use io_edge::{RealFolder, StdSink};
+use repair_run::repair;
+use std::alloc::Global;
+use std::env;
+use std::io::ErrorKind;
+use std::process::ExitCode;
+use text_names::{Text, TextFault};
+
+// Exit statuses where the words themselves can't be handed on; nothing is printed then.
+const WORDS: u8 = 2;
+const OUT_OF_MEMORY: u8 = 9;
+
+// The words behind the program's own name.
+fn words(alloc: Global, args: env::Args) -> Result<Vec<Text>, u8> {
+    let mut words = Vec::new(alloc);
+    for word in args.skip(1) {
+        let word = Text::of(alloc, word.as_bytes()).map_err(|fault| match fault {
+            TextFault::NotUtf8 { .. } => WORDS,
+            TextFault::OutOfMemory => OUT_OF_MEMORY,
+        })?;
+        words.push(word).map_err(|_| OUT_OF_MEMORY)?;
+    }
+    Ok(words)
+}
+
+fn main(rt: HostRuntime) -> ExitCode {
+    let alloc = rt.alloc();
+    let args = match env::args(&rt) {
+        Ok(args) => args,
+        Err(fault) if fault.kind() == ErrorKind::OutOfMemory => {
+            return ExitCode::from(OUT_OF_MEMORY);
+        }
+        Err(_) => return ExitCode::from(WORDS),
+    };
+    let words = match words(alloc, args) {
+        Ok(words) => words,
+        Err(status) => return ExitCode::from(status),
+    };
+    let mut folder = RealFolder::new(&rt);
+    let mut out = StdSink::new(&rt);
+    let status = repair(alloc, words.as_slice(), &mut folder, &mut out);
+    ExitCode::from(status.number())
+}
