@@ -1,4 +1,4 @@
-ghost use Rattle.std.specs.Prelude.{◌≡◌, ◌<◌, ◌-◌, ◌^◌, ◌≤◌, length, vec_len, None, IfOk, IfSome, OnOk};
+ghost use Rattle.std.specs.Prelude.{◌≡◌, ◌≢◌, ◌<◌, ◌-◌, ◌^◌, ◌≤◌, length, vec_len, None, IfOk, IfSome, OnOk};
 ghost use Rattle.std.specs.Io.KnownBytes.{Appends};
 ghost use Rattle.io_edge.specs.Faults.{faults_after_read, faults_after_write, faults_after_put};
 ghost use Rattle.io_edge.specs.Outside.{ReadAnswers, WriteAnswers, PutAnswers};
@@ -11,7 +11,10 @@ use std::marker::Model;
 use std::rt::Files;
 use text_names::{Bytes, Text};
 
-/// The files of the system. It tells nothing of what they hold. Contracts see its count of faults.
+/// The files of the system, by their paths. Contracts see the count of its faults.
+///
+/// It tells nothing of what the files hold, and counts each error of the system once, an interrupted call too. A write
+/// begins by making the file empty, so after a failure its old content may be gone.
 #[derive(Drop)]
 pub struct RealFolder<'a, R> {
     rt: &'a R,
@@ -26,7 +29,9 @@ impl<'a, R> Model for RealFolder<'a, R> {
     ghost view = { λ folder. folder.faults };
 }
 
-/// The standard output. It tells nothing of what was put. Contracts see its count of faults.
+/// The standard output. Contracts see the count of its faults.
+///
+/// It tells nothing of what was put, and counts each error of the system once, an interrupted call too.
 #[derive(Drop)]
 pub struct StdSink<'a, R> {
     rt: &'a R,
@@ -90,6 +95,7 @@ fn write_whole<W: Write>(file: &mut W, bytes: &[u8]) -> io::Result<()>
 }
 
 impl<'a, R: Files> RealFolder<'a, R> {
+    /// The files that this runtime reaches. No fault is counted yet.
     pub fn new(rt: &'a R) -> Self
         ensures faults { result ≡ 0 }
     {
@@ -133,11 +139,11 @@ impl<'a, R: Files> Folder for RealFolder<'a, R> {
 
         // What this folder says beyond the trait.
         ensures faults { self.new ≡ faults_after_write self.old result }
+        ensures no_memory { result ≢ WriteAnswer.OutOfMemory }
     {
-        let written = match fs::create(self.rt, name.as_str()) {
-            Ok(mut file) => write_whole(&mut file, bytes),
-            Err(fault) => Err(fault),
-        };
+        let written = fs::create(self.rt, name.as_str()).and_then(|mut file| write_whole(
+            &mut file, bytes,
+        ));
         match written {
             Ok(()) => WriteAnswer::Done,
             Err(_) => {
@@ -149,6 +155,7 @@ impl<'a, R: Files> Folder for RealFolder<'a, R> {
 }
 
 impl<'a, R: Print> StdSink<'a, R> {
+    /// The output of this runtime. No fault is counted yet.
     pub fn new(rt: &'a R) -> Self
         ensures faults { result ≡ 0 }
     {
@@ -167,6 +174,7 @@ impl<'a, R: Print> Sink for StdSink<'a, R> {
 
         // What this sink says beyond the trait.
         ensures faults { self.new ≡ faults_after_put self.old result }
+        ensures no_memory { result ≢ PutAnswer.OutOfMemory }
     {
         match write_whole(&mut io::writer(self.rt), bytes) {
             Ok(()) => PutAnswer::Done,
