@@ -12,6 +12,7 @@ use text_names::{Text, TextFault};
 
 // Exit statuses where the words themselves can't be handed on; nothing is printed then.
 const WORDS: u8 = 2;
+
 const OUT_OF_MEMORY: u8 = 9;
 
 // The words behind the program's own name.

@@ -31,7 +31,7 @@ IsLonger (Some bytes) max = max < length bytes
 -- what is answered about the told files, with the counts of faults for this name before and after
 abbrev pub ReadAnswers : Option Files → ℕ → ℕ → List ℕ → ℕ → ReadAnswer → Type 0
 ReadAnswers told before now name max (Read.Whole bytes) = (length bytes ≤ max) × IfSome told (λ files. files name ≡ Some bytes)
-ReadAnswers told before now name max Read.TooLong = IfSome told (λ files. IsLonger (files name) max)
+ReadAnswers told before now name max Read.TooLong = (max < 2 ^ 64 - 1) × IfSome told (λ files. IsLonger (files name) max)
 ReadAnswers told before now name max Read.Failed = Rose before now × IfSome told (λ files. ¬ (IsLonger (files name) max))
 ReadAnswers told before now name max Read.OutOfMemory = ⊤
 

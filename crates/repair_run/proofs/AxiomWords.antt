@@ -1,18 +1,14 @@
 -- Axioms and the words that spell them, both ways.
-use Rattle.std.proofs.Common.{◌≡◌, ◌⊎◌, ℕ, Bool, true, false, List, [], ◌∷◌, ◌++◌, map, refl, ap, sym, ◌∙◌, subst, inl, inr, Option, Some, None, IsTrue, codes, append_assoc, All, ⊎_elim}
+use Rattle.std.proofs.Common.{◌≡◌, ◌⊎◌, ℕ, List, [], ◌∷◌, ◌++◌, refl, ap, sym, ◌∙◌, subst, inl, inr, Option, Some, None, IsTrue, codes, All, ⊎_elim}
 use Rattle.std.specs.Option.{option_map}
-use Rattle.std.specs.List.{join_with_byte}
-use Rattle.std.proofs.lemmas.List.{append-nil}
 use Rattle.std.proofs.lemmas.List.Elements.{All-nil, All-cons, All-head, All-tail}
 use Rattle.repair_run.specs.declared.first_form.AxiomText.{AxiomText}
 use Rattle.repair_run.specs.declared.first_form.AxiomText.TheVariants.{SubClass, Disjoint, Declared}
 use Rattle.repair_run.specs.declared.first_form.Head.{Head}
-use Rattle.repair_run.specs.declared.first_form.Head.TheVariants as Head
 use Rattle.repair_run.specs.declared.first_form.Opened.{Opened}
 use Rattle.repair_run.specs.declared.first_form.Step.{Step}
-use Rattle.repair_run.specs.declared.first_form.Step.TheVariants as Step
-use Rattle.repair_run.specs.FirstForm.{is_name, IsAxiomText, axiom_text}
-use Rattle.repair_run.specs.Reading.{then_with, between, or_else, declared_of, opened_by, opened_of, closed_of, pair_of, step_of, with_first, after_step, axioms_in}
+use Rattle.repair_run.specs.FirstForm.{is_name, IsAxiomText}
+use Rattle.repair_run.specs.Reading.{between, or_else, declared_of, opened_by, opened_of, closed_of, pair_of, step_of, with_first, after_step, axioms_in}
 use Rattle.repair_run.proofs.Between.{none_is_some, same_value, between-append, between-front, between_is, between_front_is}
 
 abbrev pub head_text : Head → List ℕ
@@ -109,6 +105,7 @@ step_says None word s e = ⊎_elim
         let m = mapped (opened_by head) (between is_name (head_text head) [] word) o e in
         let b = between_front_is is_name (head_text head) word m.0 m.1 in
         subst (λ p. (word ≡ opening p) × IsTrue (is_name p.one)) m.2 b
+
     opened_says : (word : List ℕ) (o : Opened) → opened_of word ≡ Some o → (word ≡ opening o) × IsTrue (is_name o.one)
     opened_says word o e = ⊎_elim (opened_at Head.SubClass word o) (opened_at Head.Disjoint word o)
         (either_found (option_map (opened_by Head.SubClass) (between is_name (codes "SubClassOf(:") [] word)) (option_map (opened_by Head.Disjoint) (between is_name (codes "DisjointClasses(:") [] word)) o e)

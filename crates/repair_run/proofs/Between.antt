@@ -1,8 +1,8 @@
 -- What stands between a front and a back, both ways.
-use Rattle.std.proofs.Common.{◌≡◌, ℕ, ◌+◌, ◌-◌, ◌≤◌, Bool, true, false, cond, List, [], ◌∷◌, ◌++◌, length, take, drop, refl, ap, sym, ◌∙◌, subst, arith, Option, Some, None, bytes_eq, true≢false, append_assoc}
-use Rattle.std.proofs.lemmas.List.{take_at, drop_at, take-append-drop, append-nil, length-append, length-drop, length-take}
+use Rattle.std.proofs.Common.{◌≡◌, ℕ, ◌-◌, Bool, true, false, cond, List, [], ◌++◌, length, take, drop, refl, ap, sym, ◌∙◌, subst, arith, Option, Some, None, bytes_eq}
+use Rattle.std.proofs.lemmas.List.{take_at, drop_at, take-append-drop, append-nil, length-append}
 use Rattle.std.proofs.lemmas.Slice.Eq.{bytes_eq-Decides}
-use Rattle.repair_run.specs.Reading.{then_with, without_front, without_back, middle, passing, between, or_else}
+use Rattle.repair_run.specs.Reading.{then_with, without_front, without_back, middle, passing, between}
 
 pub none_is_some : {A B : Type 0} → (a : A) → let none : Option A = None in none ≡ Some a → B
 none_is_some a e = cc

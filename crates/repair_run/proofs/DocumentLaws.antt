@@ -1,17 +1,17 @@
 -- Documents of the first form: what is read is spelled so, and what is spelled so is read.
-use Rattle.std.proofs.Common.{◌≡◌, ◌⊎◌, ℕ, ◌==◌, ◌&&◌, ◌||◌, not, Bool, true, false, List, [], ◌∷◌, ◌++◌, map, refl, ap, sym, ◌∙◌, subst, inl, inr, Option, Some, None, IsTrue, codes, append_assoc, All, ⊎_elim, true≢false, nat_eq, arith}
+use Rattle.std.proofs.Common.{◌≡◌, ◌⊎◌, ℕ, ◌==◌, ◌&&◌, not, Bool, true, false, List, [], ◌∷◌, ◌++◌, map, refl, ap, sym, ◌∙◌, subst, inl, inr, Option, Some, None, IsTrue, codes, append_assoc, All, ⊎_elim, true≢false, arith}
 use Rattle.std.specs.Option.{option_map}
-use Rattle.std.specs.Char.{is_ascii_alphabetic, is_ascii_alphanumeric}
-use Rattle.std.specs.List.{list_all, starts_with, join_with_byte, slice_split, before_first, after_first}
+use Rattle.std.specs.Char.{is_ascii_alphanumeric}
+use Rattle.std.specs.List.{list_all, join_with_byte, before_first, after_first}
 use Rattle.std.proofs.lemmas.List.{append-nil, same_from_push}
 use Rattle.std.proofs.lemmas.List.Elements.{All-head, All-tail}
 use Rattle.std.proofs.lemmas.Bool.Decides.{nat_tests}
 use Rattle.repair_run.specs.declared.first_form.AxiomText.{AxiomText}
 use Rattle.repair_run.specs.declared.first_form.AxiomText.TheVariants.{SubClass, Disjoint, Declared}
 use Rattle.repair_run.specs.declared.first_form.DocumentText.{DocumentText}
-use Rattle.repair_run.specs.FirstForm.{is_name, is_iri, is_iri_byte, begins_with_letter, IsAxiomText, axiom_text, document_text, IsDocumentText}
+use Rattle.repair_run.specs.FirstForm.{is_name, is_iri, is_iri_byte, begins_with_letter, IsAxiomText, axiom_text, IsDocumentText}
 use Rattle.repair_run.specs.Reading.{then_with, without_front, without_back, middle, between, or_else, axioms_in, words_of, is_space, body_of, document_with, after_body, after_iri, document_of}
-use Rattle.repair_run.proofs.Between.{none_is_some, same_value, then_found, then_at, middle-append, middle_is, between-append, between_is, without_front-append, without_back_is}
+use Rattle.repair_run.proofs.Between.{then_found, then_at, middle-append, middle_is, between-append, between_is, without_front-append, without_back_is}
 use Rattle.repair_run.proofs.Splitting.{lacks, both_true, lacks-append, lacks_where, AllLack, split-join, join-split, join-append, before-at, after-at, parted}
 use Rattle.repair_run.proofs.AxiomWords.{axiom_words, words_of_axioms, closing, axioms_in-words, words_are, mapped, either_found}
 
@@ -21,6 +21,7 @@ differs test c fails b passes = by_value (b == c) refl
   where
     same_number : (x y : ℕ) → (x == y) ≡ true → x ≡ y
     same_number x y e = grind (arith, nat_tests)
+
     by_value : (v : Bool) → (b == c) ≡ v → not v ≡ true
     by_value false e = refl
     by_value true e = absurd (true≢false (sym passes ∙ ap test (same_number b c e) ∙ fails))
@@ -112,6 +113,7 @@ not_closed body =
   where
     different : (b : ℕ) → b ≡ 10 → b ≡ 41 → ⊥
     different b e f = omega arith
+
     by_value : (o : Option (List ℕ)) → without_back (codes ")") (body ++ (41 ∷ 10 ∷ [])) ≡ o → o ≡ None
     by_value None e = refl
     by_value (Some front) e =

@@ -1,17 +1,16 @@
 -- How a run ends, clause by clause.
-use Rattle.std.proofs.Common.{◌≡◌, ◌⊎◌, ℕ, ◌≤◌, Bool, List, ◌++◌, length, take, Option, Some, None, IfSome, inl, inr, refl, sym, ◌∙◌, ap, subst, arith, ⊎_elim}
-use Rattle.io_edge.specs.Outside.{Files, Rose, with_file}
+use Rattle.std.proofs.Common.{◌≡◌, ◌⊎◌, ℕ, Bool, List, ◌++◌, length, take, Option, Some, None, IfSome, inl, inr, refl, sym, ◌∙◌, ap, subst, ⊎_elim}
+use Rattle.io_edge.specs.Outside.{Files, with_file}
 use Rattle.io_edge.specs.declared.outside.Role.{Role}
 use Rattle.io_edge.specs.declared.outside.Target.TheVariants as Target
 use Rattle.repair_run.specs.declared.first_form.DocumentText.{DocumentText}
 use Rattle.repair_run.specs.declared.first_form.TableText.{TableText}
 use Rattle.repair_run.specs.declared.status.Status.{Status}
-use Rattle.repair_run.specs.declared.status.Status.TheVariants as Status
 use Rattle.repair_run.specs.FirstForm.{repaired_text}
 use Rattle.repair_run.specs.Status.{refusal_line}
-use Rattle.repair_run.specs.Words.{FileNames, name_of}
+use Rattle.repair_run.specs.Words.{FileNames}
 use Rattle.repair_run.specs.Plan.{Plan, Refused, plan, Ready, IsLoaded}
-use Rattle.repair_run.specs.Run.{Texts, Kept, Outcome, out_text, summary_of, summary_text, kept_count, IsDone, IsWritten, IsTorn, IsPutShort, IsReady, IsStop, IsQuiet, FilesStand, OutputStands, IsLinePut, IsWriteStop, IsOrMemory, IsOrReadStop}
+use Rattle.repair_run.specs.Run.{Texts, Outcome, summary_text, kept_count, IsDone, IsWritten, IsTorn, IsPutShort, IsStop, IsQuiet, FilesStand, OutputStands, IsWriteStop, IsOrMemory, IsOrReadStop}
 
 -- what is known where the files are told
 pub told : (o : Option Files) (P : Files → Type 0) → ((files : Files) → o ≡ Some files → P files) → IfSome o P

@@ -1,22 +1,20 @@
 -- Tables of the first form: what is read is spelled so, and what is spelled so is read.
-use Rattle.std.proofs.Common.{◌≡◌, ◌⊎◌, ℕ, ◌+◌, ◌-◌, ◌<◌, ◌==◌, ◌&&◌, Bool, true, false, cond, List, [], ◌∷◌, ◌++◌, map, refl, ap, sym, ◌∙◌, subst, Option, Some, None, IsTrue, codes, bytes_eq, append_assoc, All, ⊎_elim, arith}
+use Rattle.std.proofs.Common.{◌≡◌, ℕ, ◌+◌, ◌-◌, ◌<◌, ◌&&◌, Bool, true, false, cond, List, [], ◌∷◌, ◌++◌, map, refl, ap, sym, ◌∙◌, subst, Option, Some, None, IsTrue, codes, bytes_eq, append_assoc, All, ⊎_elim, arith}
 use Rattle.std.specs.Option.{option_map}
 use Rattle.std.specs.Char.{is_ascii_digit}
 use Rattle.std.specs.List.{join_with_byte, slice_split}
-use Rattle.std.proofs.lemmas.List.{append-nil}
 use Rattle.std.proofs.lemmas.List.Elements.{All-nil, All-cons, All-head, All-tail}
 use Rattle.std.proofs.lemmas.Bool.Decides.{nat_tests}
 use Rattle.el_logic.specs.declared.types.Side.{Side}
-use Rattle.el_logic.specs.declared.types.Side.TheVariants as Side
 use Rattle.repair_run.specs.declared.first_form.Curie.{Curie}
 use Rattle.repair_run.specs.declared.first_form.Predicate.{Predicate}
 use Rattle.repair_run.specs.declared.first_form.Predicate.TheVariants.{ExactMatch, BroadMatch}
 use Rattle.repair_run.specs.declared.first_form.RowText.{RowText}
 use Rattle.repair_run.specs.declared.first_form.TableText.{TableText}
-use Rattle.repair_run.specs.FirstForm.{is_name, is_iri, side_text, curie_text, predicate_text, row_text, IsRowText, column_line, header_lines, lines_text, table_text, IsTableText}
+use Rattle.repair_run.specs.FirstForm.{is_name, is_iri, side_text, curie_text, predicate_text, row_text, IsRowText, column_line, lines_text, table_text, IsTableText}
 use Rattle.repair_run.specs.Reading.{then_with, without_front, without_back, between, or_else, with_first, curie_with, curie_of, predicate_of, digit_of, tenths_of, row_with, after_object, after_predicate, after_subject, row_in, is_tab, row_of, rows_in, is_line_feed, table_with, after_right, after_left, table_in, after_end, table_of}
 use Rattle.repair_run.proofs.Between.{none_is_some, same_value, then_found, then_at, bytes_are, between-front, between_front_is, without_front-append, without_front_is, without_back-append, without_back_is}
-use Rattle.repair_run.proofs.Splitting.{lacks, both_true, lacks-append, AllLack, split-join, join-split}
+use Rattle.repair_run.proofs.Splitting.{lacks, lacks-append, AllLack, split-join, join-split}
 use Rattle.repair_run.proofs.AxiomWords.{mapped, either_found}
 use Rattle.repair_run.proofs.DocumentLaws.{name_lacks, iri_lacks}
 
@@ -75,6 +73,7 @@ digit_is (b ∷ []) d e = by_value (is_ascii_digit b) refl e
   where
     in_range : (b : ℕ) → is_ascii_digit b ≡ true → (48 + (b - 48) ≡ b) × (b - 48 < 10)
     in_range b h = (grind (arith, nat_tests), grind (arith, nat_tests))
+
     by_value : (v : Bool) → is_ascii_digit b ≡ v → cond v (Some (b - 48)) None ≡ Some d → (b ∷ [] ≡ (48 + d) ∷ []) × (d < 10)
     by_value true h e =
         let r = in_range b h in
@@ -147,9 +146,10 @@ row_in_is (a ∷ b ∷ c ∷ d ∷ []) r e =
     let subject = curie_is a s.0 s.1 in
     let object = curie_is c o.0 o.1 in
     let tenths = tenths_is d t.0 t.1 in
-    subst (λ q. (a ∷ b ∷ c ∷ d ∷ [] ≡ fields_of q) × IsRowText q) t.2
-    (four a b c d (curie_text s.0) (predicate_text p.0) (curie_text o.0) (tenths_text t.0) subject.0 (predicate_is b p.0 p.1) object.0 tenths.0,
-    record { subject = subject.1; object = object.1; tenths = tenths.1 })
+    subst (λ q. (a ∷ b ∷ c ∷ d ∷ [] ≡ fields_of q) × IsRowText q) t.2 (
+      four a b c d (curie_text s.0) (predicate_text p.0) (curie_text o.0) (tenths_text t.0) subject.0 (predicate_is b p.0 p.1) object.0 tenths.0,
+      record { subject = subject.1; object = object.1; tenths = tenths.1 },
+    )
   where
     four : (a b c d x y z w : List ℕ) → a ≡ x → b ≡ y → c ≡ z → d ≡ w → a ∷ b ∷ c ∷ d ∷ [] ≡ x ∷ y ∷ z ∷ w ∷ []
     four a b c d x y z w e f g h = cc
@@ -198,9 +198,13 @@ table_complete text t h =
     let lines = codes "#curie_map:" ∷ more in
     ap table_of (h.spelled ∙ lines_text-join (codes "#curie_map:") more)
     ∙ then_at (without_back (codes "\n") (join_with_byte 10 lines ++ codes "\n")) after_end (join_with_byte 10 lines) (without_back-append (codes "\n") (join_with_byte 10 lines))
-    ∙ ap table_in (split-join 10 (codes "#curie_map:") more
-    (refl, (lacks-append 10 (codes "#  l: ") t.left_iri refl (iri_lacks 10 refl t.left_iri h.left_iri),
-    (lacks-append 10 (codes "#  r: ") t.right_iri refl (iri_lacks 10 refl t.right_iri h.right_iri), (refl, rows_lack t.rows h.rows)))))
+    ∙ ap table_in (split-join 10 (codes "#curie_map:") more (
+      refl,
+      (
+        lacks-append 10 (codes "#  l: ") t.left_iri refl (iri_lacks 10 refl t.left_iri h.left_iri),
+        (lacks-append 10 (codes "#  r: ") t.right_iri refl (iri_lacks 10 refl t.right_iri h.right_iri), (refl, rows_lack t.rows h.rows)),
+      ),
+    ))
     ∙ then_at (between is_iri (codes "#  l: ") [] (codes "#  l: " ++ t.left_iri)) (after_left (codes "#  r: " ++ t.right_iri) rows) t.left_iri (between-front is_iri (codes "#  l: ") t.left_iri h.left_iri)
     ∙ then_at (between is_iri (codes "#  r: ") [] (codes "#  r: " ++ t.right_iri)) (after_right rows t.left_iri) t.right_iri (between-front is_iri (codes "#  r: ") t.right_iri h.right_iri)
     ∙ ap (λ o. option_map (table_with t.left_iri t.right_iri) o) (rows_in-text t.rows h.rows)
@@ -226,10 +230,13 @@ table_in_is (a ∷ b ∷ c ∷ d ∷ rows) t e = by_value (bytes_eq a (codes "#c
         let left = between_front_is is_iri (codes "#  l: ") b l.0 l.1 in
         let right = between_front_is is_iri (codes "#  r: ") c r.0 r.1 in
         let told = rows_in_is rows m.0 m.1 in
-        subst (λ t. (join_with_byte 10 (a ∷ b ∷ c ∷ d ∷ rows) ++ codes "\n" ≡ table_text t) × IsTrue (is_iri t.left_iri) × IsTrue (is_iri t.right_iri) × All IsRowText t.rows) m.2
-        (sym (lines_text-join a (b ∷ c ∷ d ∷ rows))
-        ∙ ap lines_text (five a b c d rows (codes "#curie_map:") (codes "#  l: " ++ l.0) (codes "#  r: " ++ r.0) column_line (map row_text m.0) (bytes_are a (codes "#curie_map:") f) left.0 right.0 (bytes_are d column_line g) told.0),
-        left.1, right.1, told.1)
+        subst (λ t. (join_with_byte 10 (a ∷ b ∷ c ∷ d ∷ rows) ++ codes "\n" ≡ table_text t) × IsTrue (is_iri t.left_iri) × IsTrue (is_iri t.right_iri) × All IsRowText t.rows) m.2 (
+          sym (lines_text-join a (b ∷ c ∷ d ∷ rows))
+              ∙ ap lines_text (five a b c d rows (codes "#curie_map:") (codes "#  l: " ++ l.0) (codes "#  r: " ++ r.0) column_line (map row_text m.0) (bytes_are a (codes "#curie_map:") f) left.0 right.0 (bytes_are d column_line g) told.0),
+          left.1,
+          right.1,
+          told.1,
+        )
 
 pub table_sound : (text : List ℕ) (t : TableText) → table_of text ≡ Some t → IsTableText text t
 table_sound text t e =

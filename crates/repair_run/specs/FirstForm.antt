@@ -1,9 +1,8 @@
 -- The first form of documents and tables: how each is spelled.
-use Rattle.std.specs.Prelude.{◌≡◌, ◌⊎◌, ℕ, ◌+◌, ◌<◌, Bool, true, false, not, if◌then◌else◌, ◌&&◌, ◌||◌, ◌==◌, nat_eq, length, IsTrue, List, [], ◌∷◌, ◌++◌, map, codes, All}
+use Rattle.std.specs.Prelude.{◌≡◌, ◌⊎◌, ℕ, ◌+◌, ◌<◌, Bool, false, not, if◌then◌else◌, ◌&&◌, ◌||◌, ◌==◌, nat_eq, length, IsTrue, List, [], ◌∷◌, ◌++◌, map, codes, All}
 use Rattle.std.specs.Char.{is_ascii_alphabetic, is_ascii_alphanumeric}
 use Rattle.std.specs.List.{list_all, list_any, starts_with, join_with_byte}
 use Rattle.el_logic.specs.declared.types.Side.{Side}
-use Rattle.el_logic.specs.declared.types.Side.TheVariants as Side
 use Rattle.repair_run.specs.declared.first_form.AxiomText.{AxiomText}
 use Rattle.repair_run.specs.declared.first_form.AxiomText.TheVariants.{SubClass, Disjoint, Declared}
 use Rattle.repair_run.specs.declared.first_form.DocumentText.{DocumentText}

@@ -2,11 +2,9 @@
 use Rattle.std.specs.Prelude.{◌≡◌, ℕ, ◌≤◌, nat_le, if◌then◌else◌, List, length, Option, Some, None, IfSome, ⊤}
 use Rattle.io_edge.specs.Outside.{Files, Rose, IsLonger}
 use Rattle.io_edge.specs.declared.outside.Role.{Role}
-use Rattle.io_edge.specs.declared.outside.Role.TheVariants as Role
 use Rattle.repair_run.specs.declared.first_form.DocumentText.{DocumentText}
 use Rattle.repair_run.specs.declared.first_form.TableText.{TableText}
 use Rattle.repair_run.specs.declared.status.Status.{Status}
-use Rattle.repair_run.specs.declared.status.Status.TheVariants as Status
 use Rattle.repair_run.specs.Reading.{document_of, table_of}
 use Rattle.repair_run.specs.Words.{FileNames, name_of}
 

@@ -1,18 +1,15 @@
 -- The first form of documents and tables: what a text is read as.
-use Rattle.std.specs.Prelude.{ℕ, ◌+◌, ◌-◌, ◌==◌, ◌≤◌, nat_le, Bool, true, false, ◌&&◌, if◌then◌else◌, List, [], ◌∷◌, ◌++◌, length, take, drop, codes, bytes_eq, Option, Some, None}
+use Rattle.std.specs.Prelude.{ℕ, ◌-◌, ◌==◌, Bool, ◌&&◌, if◌then◌else◌, List, [], ◌∷◌, length, take, drop, codes, bytes_eq, Option, Some, None}
 use Rattle.std.specs.Char.{is_ascii_digit}
 use Rattle.std.specs.Option.{option_map}
 use Rattle.std.specs.List.{slice_split, before_first, after_first}
 use Rattle.el_logic.specs.declared.types.Side.{Side}
-use Rattle.el_logic.specs.declared.types.Side.TheVariants as Side
 use Rattle.repair_run.specs.declared.first_form.AxiomText.{AxiomText}
 use Rattle.repair_run.specs.declared.first_form.AxiomText.TheVariants.{SubClass, Disjoint, Declared}
 use Rattle.repair_run.specs.declared.first_form.Head.{Head}
-use Rattle.repair_run.specs.declared.first_form.Head.TheVariants as Head
 use Rattle.repair_run.specs.declared.first_form.DocumentText.{DocumentText}
 use Rattle.repair_run.specs.declared.first_form.Opened.{Opened}
 use Rattle.repair_run.specs.declared.first_form.Step.{Step}
-use Rattle.repair_run.specs.declared.first_form.Step.TheVariants as Step
 use Rattle.repair_run.specs.declared.first_form.Curie.{Curie}
 use Rattle.repair_run.specs.declared.first_form.Predicate.{Predicate}
 use Rattle.repair_run.specs.declared.first_form.Predicate.TheVariants.{ExactMatch, BroadMatch}

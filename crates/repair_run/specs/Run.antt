@@ -1,16 +1,15 @@
 -- What a run answers, and how the files and the output stand after it.
-use Rattle.std.specs.Prelude.{◌≡◌, ◌⊎◌, ℕ, ◌+◌, ◌-◌, Bool, if◌then◌else◌, List, [], ◌∷◌, ◌++◌, length, take, Option, Some, None, IfSome, codes, decimal, count_by, not, ⊤}
+use Rattle.std.specs.Prelude.{◌≡◌, ◌⊎◌, ℕ, ◌-◌, Bool, List, ◌++◌, length, take, Option, Some, IfSome, codes, decimal, count_by, ⊤}
 use Rattle.io_edge.specs.Outside.{Files, Rose, with_file}
 use Rattle.io_edge.specs.declared.outside.Role.{Role}
 use Rattle.io_edge.specs.declared.outside.Target.TheVariants as Target
 use Rattle.repair_run.specs.declared.first_form.DocumentText.{DocumentText}
 use Rattle.repair_run.specs.declared.first_form.TableText.{TableText}
 use Rattle.repair_run.specs.declared.status.Status.{Status}
-use Rattle.repair_run.specs.declared.status.Status.TheVariants as Status
 use Rattle.repair_run.specs.FirstForm.{repaired_text}
 use Rattle.repair_run.specs.Status.{refusal_line}
 use Rattle.repair_run.specs.Words.{FileNames, name_of}
-use Rattle.repair_run.specs.Plan.{Plan, Refused, Ready, plan, IsReached}
+use Rattle.repair_run.specs.Plan.{Refused, Ready, plan, IsReached}
 
 -- the summary: how many rows there are, are kept, are removed and are inert, and that no axiom was omitted
 abbrev pub summary_text : ℕ → ℕ → ℕ → List ℕ

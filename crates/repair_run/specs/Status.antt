@@ -1,12 +1,9 @@
 -- The exit status, and the printed line, of each answer.
 use Rattle.std.specs.Prelude.{ℕ, List, [], ◌++◌, codes}
 use Rattle.el_logic.specs.declared.types.Part.{Part}
-use Rattle.el_logic.specs.declared.types.Part.TheVariants as Part
 use Rattle.io_edge.specs.declared.outside.Role.{Role}
-use Rattle.io_edge.specs.declared.outside.Role.TheVariants as Role
 use Rattle.io_edge.specs.declared.outside.Target.TheVariants as Target
 use Rattle.repair_run.specs.declared.status.Status.{Status}
-use Rattle.repair_run.specs.declared.status.Status.TheVariants as Status
 
 abbrev pub number_of : Status → ℕ
 number_of Status.Done = 0

@@ -1,7 +1,6 @@
 -- The words of a command, and the four files that they name.
-use Rattle.std.specs.Prelude.{ℕ, Bool, true, false, not, ◌&&◌, ◌||◌, ◌==◌, if◌then◌else◌, List, [], ◌∷◌, Option, Some, None, bytes_eq}
+use Rattle.std.specs.Prelude.{ℕ, Bool, false, not, ◌&&◌, ◌||◌, ◌==◌, if◌then◌else◌, List, [], ◌∷◌, Option, Some, None, bytes_eq}
 use Rattle.io_edge.specs.declared.outside.Role.{Role}
-use Rattle.io_edge.specs.declared.outside.Role.TheVariants as Role
 
 -- the names of the four files
 pub record FileNames : Type 0 where

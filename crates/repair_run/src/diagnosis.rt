@@ -35,12 +35,7 @@ fn ranking(alloc: Global, rows: &[RowText]) -> Result<Vec<usize>, AllocError> {
 }
 
 // Finds the first class that is empty in a part, and refuses with it.
-fn check_part(
-    alloc: Global,
-    names: &NameTable,
-    part: Part,
-    theory: &Theory,
-) -> Result<(), Status>
+fn check_part(alloc: Global, names: &NameTable, part: Part, theory: &Theory) -> Result<(), Status>
     ensures { IfErr result IsDiagnosisStop }
 {
     let Some(class) = theory.first_empty(alloc, names.len())? else {

@@ -8,15 +8,15 @@ mod laws;
 mod load;
 mod pieces;
 mod plain;
+mod repaired;
 mod report;
 mod run;
 mod status;
-mod repaired;
 mod tables;
 mod theory;
 mod words;
 
-pub use laws::{documents_are_read_as_spelled, tables_are_read_as_spelled};
 pub use first_form::{AxiomText, Curie, DocumentText, Predicate, RowText, TableText};
+pub use laws::{documents_are_read_as_spelled, tables_are_read_as_spelled};
 pub use run::repair;
 pub use status::Status;

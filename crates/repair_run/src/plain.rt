@@ -35,12 +35,7 @@ fn full_name(alloc: Global, iri: &[u8], name: &[u8]) -> Result<Vec<u8>, AllocErr
 }
 
 // The number of a class name. The table has room for more names than a document has bytes.
-fn number(
-    alloc: Global,
-    names: &mut NameTable,
-    iri: &[u8],
-    name: &[u8],
-) -> Result<u32, AllocError>
+fn number(alloc: Global, names: &mut NameTable, iri: &[u8], name: &[u8]) -> Result<u32, AllocError>
     requires iri { IsTrue (is_iri iri.now) }
     requires name { IsTrue (is_name name.now) }
 {

@@ -87,11 +87,7 @@ fn put_rows(out: &mut Vec<u8>, rows: &[RowText], keep: &[bool]) -> Result<(), Al
 }
 
 /// The table without the rows that are not to be kept.
-pub fn repaired_text(
-    alloc: Global,
-    table: &TableText,
-    keep: &[bool],
-) -> Result<Vec<u8>, AllocError>
+pub fn repaired_text(alloc: Global, table: &TableText, keep: &[bool]) -> Result<Vec<u8>, AllocError>
     requires rows { All IsRowText table.now.rows }
     requires each { length keep.now ≡ length table.now.rows }
     ensures { IfOk result (λ out. out.items ≡ repaired_text table.now keep.now) }

@@ -11,12 +11,7 @@ use std::alloc::{AllocError, Global};
 use text_names::Text;
 
 /// The line of a run that is done.
-pub fn summary(
-    alloc: Global,
-    rows: usize,
-    kept: usize,
-    inert: usize,
-) -> Result<String, AllocError>
+pub fn summary(alloc: Global, rows: usize, kept: usize, inert: usize) -> Result<String, AllocError>
     requires { kept ≤ rows }
     ensures { IfOk result (λ line. string_bytes line ≡ summary_text rows kept inert) }
 {

@@ -69,7 +69,14 @@ fn run<F: Folder, S: Sink>(
     };
     let text = repaired_text(alloc, &loaded.table, found.keep.as_slice())?;
     let line = summary(alloc, loaded.table.rows.len(), found.kept, found.inert)?;
-    match write_out(alloc, folder, out, names.out, text.as_slice(), line.as_bytes()) {
+    match write_out(
+        alloc,
+        folder,
+        out,
+        names.out,
+        text.as_slice(),
+        line.as_bytes(),
+    ) {
         Ok(()) => Ok(()),
         Err(status) => Err(status),
     }

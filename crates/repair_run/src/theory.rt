@@ -120,10 +120,11 @@ impl Theory {
     // Whether a class is below two that are disjoint.
     fn is_empty(&self, alloc: Global, class: u32) -> Result<bool, AllocError> {
         let above = reach(alloc, self.upper.as_slice(), &[class])?;
-        Ok(self
-            .disjoint
-            .iter()
-            .any(|(one, other)| above.has(*one) && above.has(*other)))
+        Ok(
+            self.disjoint
+                .iter()
+                .any(|(one, other)| above.has(*one) && above.has(*other)),
+        )
     }
 
     fn put_below(&mut self, lower: u32, upper: u32) -> Result<(), AllocError> {
@@ -144,9 +145,11 @@ impl Theory {
         let mut below = reach(alloc, self.lower.as_slice(), &[lower])?;
         below.classes.push(upper)?;
         let reached = reach(alloc, self.upper.as_slice(), below.classes.as_slice())?;
-        Ok(self.disjoint.iter().any(|(one, other)| {
-            (above.has(*one) && reached.has(*other)) || (above.has(*other) && reached.has(*one))
-        }))
+        Ok(
+            self.disjoint.iter().any(|(one, other)| {
+                (above.has(*one) && reached.has(*other)) || (above.has(*other) && reached.has(*one))
+            }),
+        )
     }
 
     // Puts one class below the other, unless a class would be empty then; whether it did.

@@ -1,7 +1,4 @@
-use Rattle.std.proofs.Common.{◌≡◌, ℕ, List, Option, Some, None, IfSome, sym, ◌∙◌, rules}
-use Rattle.repair_run.specs.declared.first_form.DocumentText.{DocumentText}
-use Rattle.repair_run.specs.FirstForm.{IsDocumentText}
-use Rattle.repair_run.specs.Reading.{document_of}
+use Rattle.std.proofs.Common.{rules}
 use Rattle.repair_run.proofs.DocumentLaws.{document_sound}
 use Rattle.repair_run.proofs.documents.read_document.Goals as goal
 

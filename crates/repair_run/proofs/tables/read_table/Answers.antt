@@ -1,5 +1,4 @@
 use Rattle.std.proofs.Common.{◌≡◌, ℕ, List, Option, Some, None, Result, Ok, Err, IfOk, IfSome, sym, rules}
-use Rattle.std.specs.declared.alloc.AllocError.{AllocError}
 use Rattle.repair_run.specs.declared.first_form.TableText.{TableText}
 use Rattle.repair_run.specs.FirstForm.{IsTableText}
 use Rattle.repair_run.specs.Reading.{table_of}
