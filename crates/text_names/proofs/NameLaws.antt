@@ -13,7 +13,7 @@ use Rattle.std.proofs.lemmas.List.{append-nil, append_assoc, map_push}
 use Rattle.text_names.specs.Names.{number_of, number_or_next}
 use Rattle.indexmap.specs.IndexMap.{IndexMap, insert_entry}
 use Rattle.indexmap.proofs.CallerLemmas.{insert_entry-new}
-use Rattle.text_names.specs.NameKeys.{hash_of, count_with_hash, keys_behind, AreDistinct, IsKept}
+use Rattle.text_names.specs.NameKeys.{hash_of, count_with_hash, key_behind, keys_behind, AreDistinct, IsKept}
 
 -- the key of the names of hash h that has o such names before it
 abbrev pub is_key : ℕ → ℕ → ℕ × ℕ → Bool
@@ -222,16 +222,18 @@ absent_at q o name es keyed hash all =
     none_from None h = refl
     none_from (Some n) h = cc
 
-pub keys_push : (before names : List (List ℕ)) (n : List ℕ) → keys_behind before (names ++ n ∷ []) ≡ keys_behind before names ++ (hash_of n, count_with_hash (before ++ names) (hash_of n)) ∷ []
+pub keys_push : (before names : List (List ℕ)) (n : List ℕ) → keys_behind before (names ++ n ∷ []) ≡ keys_behind before names ++ key_behind (before ++ names) n ∷ []
 keys_push before [] n = rw append-nil refl
 keys_push before (m ∷ names) n =
-    ap (λ (l : List (ℕ × ℕ)). (hash_of m, count_with_hash before (hash_of m)) ∷ l) (keys_push (before ++ m ∷ []) names n)
-    ∙ ap (λ (l : List (List ℕ)). (hash_of m, count_with_hash before (hash_of m)) ∷ (keys_behind (before ++ m ∷ []) names ++ (hash_of n, count_with_hash l (hash_of n)) ∷ [])) (append_assoc before (m ∷ []) names)
+    ap (λ (l : List (ℕ × ℕ)). key_behind before m ∷ l) (keys_push (before ++ m ∷ []) names n)
+    ∙ ap (λ (l : List (List ℕ)). key_behind before m ∷ (keys_behind (before ++ m ∷ []) names ++ key_behind l n ∷ [])) (append_assoc before (m ∷ []) names)
 
-pub keyed_push : (es new : List ((ℕ × ℕ) × List ℕ)) (q o : ℕ) (n : List ℕ) → keys_of es ≡ keys_behind [] (values_of es) → new ≡ es ++ ((q, o), n) ∷ [] → q ≡ hash_of n → o ≡ count_with_hash (values_of es) (hash_of n) →
+keyed_push : (es new : List ((ℕ × ℕ) × List ℕ)) (key : ℕ × ℕ) (n : List ℕ) → keys_of es ≡ keys_behind [] (values_of es) → new ≡ es ++ (key, n) ∷ [] → key ≡ key_behind (values_of es) n →
     keys_of new ≡ keys_behind [] (values_of new)
-keyed_push es new q o n keyed more hash all =
-    rw (more, map_push, map_push, keyed, hash, all) (sym (keys_push [] (values_of es) n))
+keyed_push es new key n keyed more new_key =
+    ap keys_of more ∙ map_push (λ (e : (ℕ × ℕ) × List ℕ). e.0) es (key, n)
+    ∙ ap (λ (l : List (ℕ × ℕ)). l ++ key ∷ []) keyed ∙ ap (λ (k : ℕ × ℕ). keys_behind [] (values_of es) ++ k ∷ []) new_key
+    ∙ sym (keys_push [] (values_of es) n) ∙ ap (keys_behind []) (sym (ap values_of more ∙ map_push (λ (e : (ℕ × ℕ) × List ℕ). e.1) es (key, n)))
 
 position_push : (t : List ℕ → Bool) (k : ℕ) (names : List (List ℕ)) (n : List ℕ) → position_from t k (names ++ n ∷ []) ≡ option_or (position_from t k names) (cond (t n) (Some (k + length names)) None)
 position_push t k [] n = ap (λ (i : ℕ). cond (t n) (Some i) None) (let z : k ≡ k + 0 = omega arith in z)
@@ -278,22 +280,22 @@ next_number names name missing = by (nat_lt (number_or_next names name) (length 
         grind (arith, nat_tests)
 
 -- the entries after a new name is inserted
-pub grown : {S : Type 0} (m new : IndexMap (ℕ × ℕ) (List ℕ) S) (q o : ℕ) (text name : List ℕ) → keys_of m.entries ≡ keys_behind [] (values_of m.entries) →
-    new.entries ≡ insert_entry (λ (a b : ℕ × ℕ). is_key a.0 a.1 b) m.entries (q, o) text → text ≡ name → q ≡ hash_of name → o ≡ count_with_hash (values_of m.entries) (hash_of name) →
-    new.entries ≡ m.entries ++ ((q, o), name) ∷ []
-grown m new q o text name keyed inserted same hash all =
-    inserted ∙ insert_entry-new (λ (a b : ℕ × ℕ). is_key a.0 a.1 b) m (q, o) text (absent_at q o name m.entries keyed hash all)
-    ∙ ap (λ (n : List ℕ). m.entries ++ ((q, o), n) ∷ []) same
+pub grown : {S : Type 0} (m new : IndexMap (ℕ × ℕ) (List ℕ) S) (key : ℕ × ℕ) (text name : List ℕ) → keys_of m.entries ≡ keys_behind [] (values_of m.entries) →
+    new.entries ≡ insert_entry (λ (a b : ℕ × ℕ). is_key a.0 a.1 b) m.entries key text → text ≡ name → key ≡ key_behind (values_of m.entries) name →
+    new.entries ≡ m.entries ++ (key, name) ∷ []
+grown m new key text name keyed inserted same new_key =
+    inserted ∙ insert_entry-new (λ (a b : ℕ × ℕ). is_key a.0 a.1 b) m key text (absent_at key.0 key.1 name m.entries keyed (ap (λ (k : ℕ × ℕ). k.0) new_key) (ap (λ (k : ℕ × ℕ). k.1) new_key))
+    ∙ ap (λ (n : List ℕ). m.entries ++ (key, n) ∷ []) same
 
 pub values_grown : (es new : List ((ℕ × ℕ) × List ℕ)) (key : ℕ × ℕ) (n : List ℕ) → new ≡ es ++ (key, n) ∷ [] → values_of new ≡ values_of es ++ n ∷ []
 values_grown es new key n more = rw (more, map_push) refl
 
-pub kept_push : (es new : List ((ℕ × ℕ) × List ℕ)) (q o most : ℕ) (n : List ℕ) → IsKept (keys_of es) (values_of es) most → new ≡ es ++ ((q, o), n) ∷ [] → q ≡ hash_of n → o ≡ count_with_hash (values_of es) (hash_of n) →
+pub kept_push : (es new : List ((ℕ × ℕ) × List ℕ)) (key : ℕ × ℕ) (most : ℕ) (n : List ℕ) → IsKept (keys_of es) (values_of es) most → new ≡ es ++ (key, n) ∷ [] → key ≡ key_behind (values_of es) n →
     number_of (values_of es) n ≡ None → length (values_of es) < most → IsKept (keys_of new) (values_of new) most
-kept_push es new q o most n kept more hash all absent room =
-    let values = values_grown es new (q, o) n more in
+kept_push es new key most n kept more new_key absent room =
+    let values = values_grown es new key n more in
     record {
-      keyed = keyed_push es new q o n kept.keyed more hash all;
+      keyed = keyed_push es new key n kept.keyed more new_key;
       distinct = rw values (distinct_push (values_of es) n kept.distinct absent);
       bounded = omega (arith, ap length values, length-append (values_of es) (n ∷ []), room);
       fits = kept.fits;

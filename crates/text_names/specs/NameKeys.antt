@@ -10,10 +10,14 @@ hash_of name = finish (write initial name)
 abbrev pub count_with_hash : List (List ℕ) → ℕ → ℕ
 count_with_hash names hash = count_by (λ other. hash_of other == hash) names
 
+-- the key of a name behind others
+abbrev pub key_behind : List (List ℕ) → List ℕ → ℕ × ℕ
+key_behind before name = (hash_of name, count_with_hash before (hash_of name))
+
 -- the keys of names behind others
 abbrev pub keys_behind : List (List ℕ) → List (List ℕ) → List (ℕ × ℕ)
 keys_behind before [] = []
-keys_behind before (name ∷ names) = (hash_of name, count_with_hash before (hash_of name)) ∷ keys_behind (before ++ name ∷ []) names
+keys_behind before (name ∷ names) = key_behind before name ∷ keys_behind (before ++ name ∷ []) names
 
 -- no name is held twice
 abbrev pub AreDistinct : List (List ℕ) → Type 0

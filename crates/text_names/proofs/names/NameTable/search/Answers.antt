@@ -1,4 +1,4 @@
-use Rattle.std.proofs.Common.{◌<◌, ◌≤◌, ◌∙◌, sym, ap, List, ℕ, arith, length}
+use Rattle.std.proofs.Common.{◌≡◌, ◌<◌, ◌≤◌, ◌∙◌, sym, ap, List, ℕ, arith, length}
 use Rattle.std.specs.Prelude.{◌==◌, bytes_eq}
 use Rattle.indexmap.specs.IndexMap.{values}
 use Rattle.std.proofs.lemmas.List.Sums.{count_by-le-length}
@@ -46,8 +46,9 @@ returns-clause-missing c =
     ap (λ (l : List (List ℕ)). number_of l c.args.name.now) (ap (λ t. t.names) (sym c.self.view_is))
     ∙ ended_at c.hash_of-hash.result c.loop-number.clashes c.args.name.now c.self.inside.names.entries c.self.invariant.keyed c.hash_of-hash.ensures c.loop-number.invariant.rest c.in_default.ensures.index
 
-pub returns-clause-clashes : goal.returns-clause-clashes
-returns-clause-clashes c =
+pub returns-clause-key : goal.returns-clause-key
+returns-clause-key c =
     let high = beyond c.hash_of-hash.result c.loop-number.clashes c.args.name.now c.self.inside.names.entries c.self.invariant.keyed c.hash_of-hash.ensures c.in_default.ensures.value in
     let same = ap (λ t. count_with_hash t.names (hash_of c.args.name.now)) c.self.view_is in
-    omega (arith, high, c.loop-number.invariant.within, same)
+    let clashes : c.loop-number.clashes ≡ count_with_hash c.args.self.now.names (hash_of c.args.name.now) = omega (arith, high, c.loop-number.invariant.within, same) in
+    λ i. (c.hash_of-hash.ensures i, clashes i)
