@@ -1,6 +1,6 @@
 -- Names under their keys.
 use Rattle.std.proofs.Common.{◌≡◌, ◌≢◌, ℕ, zero, suc, ◌+◌, ◌-◌, ◌<◌, ◌≤◌, Bool, true, false, cond, ◌&&◌, ◌⊎◌, ⊎_elim, inl, inr, List, [], ◌∷◌, ◌++◌, length, length-append, Option, Some, None, is_some, refl, sym, ap, ◌∙◌, arith}
-use Rattle.std.specs.Prelude.{◌==◌, not, nat_lt, count_by, bytes_eq, position, slice_get}
+use Rattle.std.specs.Prelude.{◌==◌, not, nat_lt, bytes_eq, position, slice_get}
 use Rattle.std.specs.List.{position_from}
 use Rattle.std.specs.Option.{option_or, option_map}
 use Rattle.std.proofs.lemmas.Option.{slice_get-map}
@@ -13,7 +13,7 @@ use Rattle.std.proofs.lemmas.List.{append-nil, append_assoc, map_push}
 use Rattle.text_names.specs.Names.{number_of, number_or_next}
 use Rattle.indexmap.specs.IndexMap.{IndexMap, insert_entry}
 use Rattle.indexmap.proofs.CallerLemmas.{insert_entry-new}
-use Rattle.text_names.specs.NameKeys.{hash_of, with_hash, keys_behind, AreDistinct, IsKept}
+use Rattle.text_names.specs.NameKeys.{hash_of, count_with_hash, key_behind, keys_behind, AreDistinct, IsKept}
 
 -- the key of the names of hash h that has o such names before it
 abbrev pub is_key : ℕ → ℕ → ℕ × ℕ → Bool
@@ -38,16 +38,16 @@ seek_other : (k h d : ℕ) (name n : List ℕ) (ns : List (List ℕ)) → hash_o
 seek_other k h d name n ns e = let f : (hash_of n == h) ≡ false = grind (arith, nat_tests) in rw f refl
 
 -- one more name counted
-count_push : (before : List (List ℕ)) (n : List ℕ) (h : ℕ) → with_hash (before ++ n ∷ []) h ≡ with_hash before h + cond (hash_of n == h) 1 0
+count_push : (before : List (List ℕ)) (n : List ℕ) (h : ℕ) → count_with_hash (before ++ n ∷ []) h ≡ count_with_hash before h + cond (hash_of n == h) 1 0
 count_push before n h = sum_by_push (λ (other : List ℕ). cond (hash_of other == h) 1 0) before n
 
-count_same : (before : List (List ℕ)) (n : List ℕ) (h : ℕ) → hash_of n ≡ h → with_hash (before ++ n ∷ []) h ≡ with_hash before h + 1
-count_same before n h e = let t : cond {A = ℕ} (hash_of n == h) 1 0 ≡ 1 = grind (arith, nat_tests) in count_push before n h ∙ ap (λ (m : ℕ). with_hash before h + m) t
+count_same : (before : List (List ℕ)) (n : List ℕ) (h : ℕ) → hash_of n ≡ h → count_with_hash (before ++ n ∷ []) h ≡ count_with_hash before h + 1
+count_same before n h e = let t : cond {A = ℕ} (hash_of n == h) 1 0 ≡ 1 = grind (arith, nat_tests) in count_push before n h ∙ ap (λ (m : ℕ). count_with_hash before h + m) t
 
-count_other : (before : List (List ℕ)) (n : List ℕ) (h : ℕ) → hash_of n ≢ h → with_hash (before ++ n ∷ []) h ≡ with_hash before h
+count_other : (before : List (List ℕ)) (n : List ℕ) (h : ℕ) → hash_of n ≢ h → count_with_hash (before ++ n ∷ []) h ≡ count_with_hash before h
 count_other before n h e =
     let t : cond {A = ℕ} (hash_of n == h) 1 0 ≡ 0 = grind (arith, nat_tests) in
-    let more : with_hash (before ++ n ∷ []) h ≡ with_hash before h + cond (hash_of n == h) 1 0 = count_push before n h in
+    let more : count_with_hash (before ++ n ∷ []) h ≡ count_with_hash before h + cond (hash_of n == h) 1 0 = count_push before n h in
     omega (arith, t, more)
 
 -- the answer of a look-up: the name there, or the answer with one more passed over
@@ -65,19 +65,19 @@ module _ (t : ℕ × ℕ → Bool) (name : List ℕ) (k : ℕ) (e : (ℕ × ℕ)
 
 -- the first key, and those behind it
 first_key : (before : List (List ℕ)) (e : (ℕ × ℕ) × List ℕ) (es : List ((ℕ × ℕ) × List ℕ)) → keys_of (e ∷ es) ≡ keys_behind before (values_of (e ∷ es)) →
-    (e.0.0 ≡ hash_of e.1) × (e.0.1 ≡ with_hash before (hash_of e.1)) × (keys_of es ≡ keys_behind (before ++ e.1 ∷ []) (values_of es))
+    (e.0.0 ≡ hash_of e.1) × (e.0.1 ≡ count_with_hash before (hash_of e.1)) × (keys_of es ≡ keys_behind (before ++ e.1 ∷ []) (values_of es))
 first_key before e es keyed = (cc, cc, cc)
 
-key_is : (h o : ℕ) (before : List (List ℕ)) (e : (ℕ × ℕ) × List ℕ) → e.0.0 ≡ hash_of e.1 → e.0.1 ≡ with_hash before (hash_of e.1) → hash_of e.1 ≡ h → o ≡ with_hash before h → is_key h o e.0 ≡ true
+key_is : (h o : ℕ) (before : List (List ℕ)) (e : (ℕ × ℕ) × List ℕ) → e.0.0 ≡ hash_of e.1 → e.0.1 ≡ count_with_hash before (hash_of e.1) → hash_of e.1 ≡ h → o ≡ count_with_hash before h → is_key h o e.0 ≡ true
 key_is h o before e hash place same at =
-    let count : with_hash before (hash_of e.1) ≡ with_hash before h = ap (with_hash before) same in
+    let count : count_with_hash before (hash_of e.1) ≡ count_with_hash before h = ap (count_with_hash before) same in
     let one : h ≡ e.0.0 = sym same ∙ sym hash in
     let two : o ≡ e.0.1 = at ∙ sym count ∙ sym place in
     grind (arith, nat_tests)
 
-key_is_later : (h o d : ℕ) (before : List (List ℕ)) (e : (ℕ × ℕ) × List ℕ) → e.0.1 ≡ with_hash before (hash_of e.1) → hash_of e.1 ≡ h → o ≡ with_hash before h + suc d → is_key h o e.0 ≡ false
+key_is_later : (h o d : ℕ) (before : List (List ℕ)) (e : (ℕ × ℕ) × List ℕ) → e.0.1 ≡ count_with_hash before (hash_of e.1) → hash_of e.1 ≡ h → o ≡ count_with_hash before h + suc d → is_key h o e.0 ≡ false
 key_is_later h o d before e place same at =
-    let count : with_hash before (hash_of e.1) ≡ with_hash before h = ap (with_hash before) same in
+    let count : count_with_hash before (hash_of e.1) ≡ count_with_hash before h = ap (count_with_hash before) same in
     let two : e.0.1 < o = omega (arith, count, place, at) in
     grind (arith, nat_tests)
 
@@ -91,71 +91,71 @@ abbrev answer : (h o : ℕ) (name : List ℕ) (k : ℕ) → List ((ℕ × ℕ) �
 answer h o name k es later = next name (position_from (is_key h o) k (keys_of es)) (lookup (is_key h o) es) later
 
 module _ (h o : ℕ) (name : List ℕ) (k : ℕ) (before : List (List ℕ)) (e : (ℕ × ℕ) × List ℕ) (es : List ((ℕ × ℕ) × List ℕ))
-    (hash : e.0.0 ≡ hash_of e.1) (place : e.0.1 ≡ with_hash before (hash_of e.1))
-    (rest : (c : ℕ) → o ≡ with_hash (before ++ e.1 ∷ []) h + c → seek (k + 1) h c name (values_of es) ≡ answer h o name (k + 1) es (seek (k + 1) h (c + 1) name (values_of es))) where
-  step_same : (d : ℕ) → hash_of e.1 ≡ h → o ≡ with_hash before h + d → seek k h d name (values_of (e ∷ es)) ≡ answer h o name k (e ∷ es) (seek k h (d + 1) name (values_of (e ∷ es)))
+    (hash : e.0.0 ≡ hash_of e.1) (place : e.0.1 ≡ count_with_hash before (hash_of e.1))
+    (rest : (c : ℕ) → o ≡ count_with_hash (before ++ e.1 ∷ []) h + c → seek (k + 1) h c name (values_of es) ≡ answer h o name (k + 1) es (seek (k + 1) h (c + 1) name (values_of es))) where
+  step_same : (d : ℕ) → hash_of e.1 ≡ h → o ≡ count_with_hash before h + d → seek k h d name (values_of (e ∷ es)) ≡ answer h o name k (e ∷ es) (seek k h (d + 1) name (values_of (e ∷ es)))
   step_same zero same at =
-      let found = found_here (is_key h o) name k e es (seek k h (0 + 1) name (values_of (e ∷ es))) (key_is h o before e hash place same (let z : o ≡ with_hash before h = omega arith in z)) in
+      let found = found_here (is_key h o) name k e es (seek k h (0 + 1) name (values_of (e ∷ es))) (key_is h o before e hash place same (let z : o ≡ count_with_hash before h = omega arith in z)) in
       seek_here k h name e.1 (values_of es) same ∙ ap (λ (r : Option ℕ). cond (bytes_eq name e.1) (Some k) r) (sym (seek_past k h 0 name e.1 (values_of es) same)) ∙ sym found
   step_same (suc d) same at =
       let later = found_later (is_key h o) name k e es (seek k h (suc d + 1) name (values_of (e ∷ es))) (key_is_later h o d before e place same at) in
-      let more : o ≡ with_hash (before ++ e.1 ∷ []) h + d = omega (arith, count_same before e.1 h same) in
+      let more : o ≡ count_with_hash (before ++ e.1 ∷ []) h + d = omega (arith, count_same before e.1 h same) in
       let one : suc d ≡ d + 1 = omega arith in
       let past : seek k h (suc d) name (values_of (e ∷ es)) ≡ seek (k + 1) h d name (values_of es) = ap (λ (m : ℕ). seek k h m name (values_of (e ∷ es))) one ∙ seek_past k h d name e.1 (values_of es) same in
       let past_two : seek k h (suc d + 1) name (values_of (e ∷ es)) ≡ seek (k + 1) h (d + 1) name (values_of es) = seek_past k h (suc d) name e.1 (values_of es) same ∙ ap (λ (m : ℕ). seek (k + 1) h m name (values_of es)) one in
       past ∙ rest d more ∙ ap (answer h o name (k + 1) es) (sym past_two) ∙ sym later
 
-  step_other : (d : ℕ) → hash_of e.1 ≢ h → o ≡ with_hash before h + d → seek k h d name (values_of (e ∷ es)) ≡ answer h o name k (e ∷ es) (seek k h (d + 1) name (values_of (e ∷ es)))
+  step_other : (d : ℕ) → hash_of e.1 ≢ h → o ≡ count_with_hash before h + d → seek k h d name (values_of (e ∷ es)) ≡ answer h o name k (e ∷ es) (seek k h (d + 1) name (values_of (e ∷ es)))
   step_other d other at =
       let later = found_later (is_key h o) name k e es (seek k h (d + 1) name (values_of (e ∷ es))) (key_is_other h o e hash other) in
-      let more : o ≡ with_hash (before ++ e.1 ∷ []) h + d = omega (arith, count_other before e.1 h other) in
+      let more : o ≡ count_with_hash (before ++ e.1 ∷ []) h + d = omega (arith, count_other before e.1 h other) in
       seek_other k h d name e.1 (values_of es) other ∙ rest d more ∙ ap (answer h o name (k + 1) es) (sym (seek_other k h (d + 1) name e.1 (values_of es) other)) ∙ sym later
 
-pub seek_step : (h o : ℕ) (name : List ℕ) (k d : ℕ) (before : List (List ℕ)) (es : List ((ℕ × ℕ) × List ℕ)) → keys_of es ≡ keys_behind before (values_of es) → o ≡ with_hash before h + d →
+pub seek_step : (h o : ℕ) (name : List ℕ) (k d : ℕ) (before : List (List ℕ)) (es : List ((ℕ × ℕ) × List ℕ)) → keys_of es ≡ keys_behind before (values_of es) → o ≡ count_with_hash before h + d →
     seek k h d name (values_of es) ≡ answer h o name k es (seek k h (d + 1) name (values_of es))
 seek_step h o name k d before [] keyed at = refl
 seek_step h o name k d before (e ∷ es) keyed at =
     let key = first_key before e es keyed in
-    let rest = λ (c : ℕ) (here : o ≡ with_hash (before ++ e.1 ∷ []) h + c). seek_step h o name (k + 1) c (before ++ e.1 ∷ []) es key.2 here in
+    let rest = λ (c : ℕ) (here : o ≡ count_with_hash (before ++ e.1 ∷ []) h + c). seek_step h o name (k + 1) c (before ++ e.1 ∷ []) es key.2 here in
     ⊎_elim (λ same. step_same h o name k before e es key.0 key.1 rest d same.1 at) (λ other. step_other h o name k before e es key.0 key.1 rest d other.1 at) (eqb_tells (hash_of e.1) h)
 
 -- a key is there exactly where enough names have its hash
-count_first : (n : List ℕ) (ns : List (List ℕ)) (h : ℕ) → with_hash (n ∷ ns) h ≡ cond (hash_of n == h) 1 0 + with_hash ns h
+count_first : (n : List ℕ) (ns : List (List ℕ)) (h : ℕ) → count_with_hash (n ∷ ns) h ≡ cond (hash_of n == h) 1 0 + count_with_hash ns h
 count_first n ns h = sum_by-cons (λ (other : List ℕ). cond (hash_of other == h) 1 0) n ns
 
 module _ (h o total : ℕ) (before : List (List ℕ)) (e : (ℕ × ℕ) × List ℕ) (es : List ((ℕ × ℕ) × List ℕ))
-    (hash : e.0.0 ≡ hash_of e.1) (place : e.0.1 ≡ with_hash before (hash_of e.1))
-    (all : total ≡ with_hash before h + with_hash (e.1 ∷ values_of es) h)
-    (rest : with_hash (before ++ e.1 ∷ []) h ≤ o → total ≡ with_hash (before ++ e.1 ∷ []) h + with_hash (values_of es) h → is_some (lookup (is_key h o) es) ≡ nat_lt o total) where
-  there_same : (d : ℕ) → hash_of e.1 ≡ h → o ≡ with_hash before h + d → is_some (lookup (is_key h o) (e ∷ es)) ≡ nat_lt o total
+    (hash : e.0.0 ≡ hash_of e.1) (place : e.0.1 ≡ count_with_hash before (hash_of e.1))
+    (all : total ≡ count_with_hash before h + count_with_hash (e.1 ∷ values_of es) h)
+    (rest : count_with_hash (before ++ e.1 ∷ []) h ≤ o → total ≡ count_with_hash (before ++ e.1 ∷ []) h + count_with_hash (values_of es) h → is_some (lookup (is_key h o) es) ≡ nat_lt o total) where
+  there_same : (d : ℕ) → hash_of e.1 ≡ h → o ≡ count_with_hash before h + d → is_some (lookup (is_key h o) (e ∷ es)) ≡ nat_lt o total
   there_same zero same at =
       let t : cond {A = ℕ} (hash_of e.1 == h) 1 0 ≡ 1 = grind (arith, nat_tests) in
       let less : o < total = omega (arith, count_first e.1 (values_of es) h, t) in
       let test : nat_lt o total ≡ true = grind (arith, nat_tests) in
-      rw (key_is h o before e hash place same (let z : o ≡ with_hash before h = omega arith in z), test) refl
+      rw (key_is h o before e hash place same (let z : o ≡ count_with_hash before h = omega arith in z), test) refl
   there_same (suc d) same at =
       let t : cond {A = ℕ} (hash_of e.1 == h) 1 0 ≡ 1 = grind (arith, nat_tests) in
       let more = count_same before e.1 h same in
-      let low : with_hash (before ++ e.1 ∷ []) h ≤ o = omega (arith, more) in
-      let sum : total ≡ with_hash (before ++ e.1 ∷ []) h + with_hash (values_of es) h = omega (arith, more, count_first e.1 (values_of es) h, t) in
+      let low : count_with_hash (before ++ e.1 ∷ []) h ≤ o = omega (arith, more) in
+      let sum : total ≡ count_with_hash (before ++ e.1 ∷ []) h + count_with_hash (values_of es) h = omega (arith, more, count_first e.1 (values_of es) h, t) in
       rw (key_is_later h o d before e place same at) (rest low sum)
 
-  there_other : hash_of e.1 ≢ h → with_hash before h ≤ o → is_some (lookup (is_key h o) (e ∷ es)) ≡ nat_lt o total
+  there_other : hash_of e.1 ≢ h → count_with_hash before h ≤ o → is_some (lookup (is_key h o) (e ∷ es)) ≡ nat_lt o total
   there_other other at =
       let t : cond {A = ℕ} (hash_of e.1 == h) 1 0 ≡ 0 = grind (arith, nat_tests) in
       let more = count_other before e.1 h other in
-      let low : with_hash (before ++ e.1 ∷ []) h ≤ o = omega (arith, more) in
-      let sum : total ≡ with_hash (before ++ e.1 ∷ []) h + with_hash (values_of es) h = omega (arith, more, count_first e.1 (values_of es) h, t) in
+      let low : count_with_hash (before ++ e.1 ∷ []) h ≤ o = omega (arith, more) in
+      let sum : total ≡ count_with_hash (before ++ e.1 ∷ []) h + count_with_hash (values_of es) h = omega (arith, more, count_first e.1 (values_of es) h, t) in
       rw (key_is_other h o e hash other) (rest low sum)
 
-pub key_there : (h o total : ℕ) (before : List (List ℕ)) (es : List ((ℕ × ℕ) × List ℕ)) → keys_of es ≡ keys_behind before (values_of es) → with_hash before h ≤ o →
-    total ≡ with_hash before h + with_hash (values_of es) h → is_some (lookup (is_key h o) es) ≡ nat_lt o total
+pub key_there : (h o total : ℕ) (before : List (List ℕ)) (es : List ((ℕ × ℕ) × List ℕ)) → keys_of es ≡ keys_behind before (values_of es) → count_with_hash before h ≤ o →
+    total ≡ count_with_hash before h + count_with_hash (values_of es) h → is_some (lookup (is_key h o) es) ≡ nat_lt o total
 key_there h o total before [] keyed at all = let high : total ≤ o = omega (arith, all) in let test : nat_lt o total ≡ false = grind (arith, nat_tests) in sym test
 key_there h o total before (e ∷ es) keyed at all =
     let key = first_key before e es keyed in
     let rest = key_there h o total (before ++ e.1 ∷ []) es key.2 in
     ⊎_elim
-    (λ same. there_same h o total before e es key.0 key.1 all rest (o - with_hash before h) same.1 (let d : o ≡ with_hash before h + (o - with_hash before h) = omega arith in d))
+    (λ same. there_same h o total before e es key.0 key.1 all rest (o - count_with_hash before h) same.1 (let d : o ≡ count_with_hash before h + (o - count_with_hash before h) = omega arith in d))
     (λ other. there_other h o total before e es key.0 key.1 all rest other.1 at)
     (eqb_tells (hash_of e.1) h)
 
@@ -180,7 +180,7 @@ module _ (q o : ℕ) (name : List ℕ) (es : List ((ℕ × ℕ) × List ℕ)) (k
     (so_far : seek 0 (hash_of name) o name (values_of es) ≡ number_of (values_of es) name) where
   told : (r : Option ℕ) (v : Option (List ℕ)) → r ≡ position (is_key q o) (keys_of es) → v ≡ lookup (is_key q o) es → number_of (values_of es) name ≡ next name r v (seek 0 (hash_of name) (o + 1) name (values_of es))
   told r v index value =
-      let zero_on : o ≡ with_hash [] (hash_of name) + o = omega arith in
+      let zero_on : o ≡ count_with_hash [] (hash_of name) + o = omega arith in
       let at : position_from (is_key (hash_of name) o) 0 (keys_of es) ≡ r = ap (λ (h : ℕ). position_from (is_key h o) 0 (keys_of es)) (sym hash) ∙ sym (position_from-zero (is_key q o) (keys_of es)) ∙ sym index in
       let there : lookup (is_key (hash_of name) o) es ≡ v = ap (λ (h : ℕ). lookup (is_key h o) es) (sym hash) ∙ sym value in
       sym so_far ∙ seek_step (hash_of name) o name 0 o [] es keyed zero_on
@@ -198,40 +198,42 @@ module _ (q o : ℕ) (name : List ℕ) (es : List ((ℕ × ℕ) × List ℕ)) (k
 
 -- how many look-ups find a name
 module _ (q o : ℕ) (name : List ℕ) (es : List ((ℕ × ℕ) × List ℕ)) (keyed : keys_of es ≡ keys_behind [] (values_of es)) (hash : q ≡ hash_of name) where
-  counted : (v : Option (List ℕ)) → v ≡ lookup (is_key q o) es → is_some v ≡ nat_lt o (with_hash (values_of es) (hash_of name))
+  counted : (v : Option (List ℕ)) → v ≡ lookup (is_key q o) es → is_some v ≡ nat_lt o (count_with_hash (values_of es) (hash_of name))
   counted v value =
-      let total : with_hash (values_of es) (hash_of name) ≡ with_hash [] (hash_of name) + with_hash (values_of es) (hash_of name) = omega arith in
-      ap is_some value ∙ ap (λ (h : ℕ). is_some (lookup (is_key h o) es)) hash ∙ key_there (hash_of name) o (with_hash (values_of es) (hash_of name)) [] es keyed (omega arith) total
+      let total : count_with_hash (values_of es) (hash_of name) ≡ count_with_hash [] (hash_of name) + count_with_hash (values_of es) (hash_of name) = omega arith in
+      ap is_some value ∙ ap (λ (h : ℕ). is_some (lookup (is_key h o) es)) hash ∙ key_there (hash_of name) o (count_with_hash (values_of es) (hash_of name)) [] es keyed (omega arith) total
 
-  pub below : (n : List ℕ) → Some n ≡ lookup (is_key q o) es → o < with_hash (values_of es) (hash_of name)
-  below n value = let t : true ≡ nat_lt o (with_hash (values_of es) (hash_of name)) = counted (Some n) value in grind (arith, nat_tests)
+  pub below : (n : List ℕ) → Some n ≡ lookup (is_key q o) es → o < count_with_hash (values_of es) (hash_of name)
+  below n value = let t : true ≡ nat_lt o (count_with_hash (values_of es) (hash_of name)) = counted (Some n) value in grind (arith, nat_tests)
 
-  pub beyond : None ≡ lookup (is_key q o) es → with_hash (values_of es) (hash_of name) ≤ o
-  beyond value = let t : false ≡ nat_lt o (with_hash (values_of es) (hash_of name)) = counted None value in grind (arith, nat_tests)
+  pub beyond : None ≡ lookup (is_key q o) es → count_with_hash (values_of es) (hash_of name) ≤ o
+  beyond value = let t : false ≡ nat_lt o (count_with_hash (values_of es) (hash_of name)) = counted None value in grind (arith, nat_tests)
 
 pub seek_start : (name : List ℕ) (names : List (List ℕ)) → seek 0 (hash_of name) 0 name names ≡ number_of names name
 seek_start name names = sym (seek_all 0 name names) ∙ sym (position_from-zero (bytes_eq name) names)
 
 -- one more name behind the others
-pub absent_at : (q o : ℕ) (name : List ℕ) (es : List ((ℕ × ℕ) × List ℕ)) → keys_of es ≡ keys_behind [] (values_of es) → q ≡ hash_of name → o ≡ with_hash (values_of es) (hash_of name) → lookup (is_key q o) es ≡ None
+pub absent_at : (q o : ℕ) (name : List ℕ) (es : List ((ℕ × ℕ) × List ℕ)) → keys_of es ≡ keys_behind [] (values_of es) → q ≡ hash_of name → o ≡ count_with_hash (values_of es) (hash_of name) → lookup (is_key q o) es ≡ None
 absent_at q o name es keyed hash all =
-    let t : nat_lt o (with_hash (values_of es) (hash_of name)) ≡ false = grind (arith, nat_tests) in
+    let t : nat_lt o (count_with_hash (values_of es) (hash_of name)) ≡ false = grind (arith, nat_tests) in
     none_from (lookup (is_key q o) es) (counted q o name es keyed hash (lookup (is_key q o) es) refl ∙ t)
   where
     none_from : (v : Option (List ℕ)) → is_some v ≡ false → v ≡ None
     none_from None h = refl
     none_from (Some n) h = cc
 
-pub keys_push : (before names : List (List ℕ)) (n : List ℕ) → keys_behind before (names ++ n ∷ []) ≡ keys_behind before names ++ (hash_of n, with_hash (before ++ names) (hash_of n)) ∷ []
+pub keys_push : (before names : List (List ℕ)) (n : List ℕ) → keys_behind before (names ++ n ∷ []) ≡ keys_behind before names ++ key_behind (before ++ names) n ∷ []
 keys_push before [] n = rw append-nil refl
 keys_push before (m ∷ names) n =
-    ap (λ (l : List (ℕ × ℕ)). (hash_of m, with_hash before (hash_of m)) ∷ l) (keys_push (before ++ m ∷ []) names n)
-    ∙ ap (λ (l : List (List ℕ)). (hash_of m, with_hash before (hash_of m)) ∷ (keys_behind (before ++ m ∷ []) names ++ (hash_of n, with_hash l (hash_of n)) ∷ [])) (append_assoc before (m ∷ []) names)
+    ap (λ (l : List (ℕ × ℕ)). key_behind before m ∷ l) (keys_push (before ++ m ∷ []) names n)
+    ∙ ap (λ (l : List (List ℕ)). key_behind before m ∷ (keys_behind (before ++ m ∷ []) names ++ key_behind l n ∷ [])) (append_assoc before (m ∷ []) names)
 
-pub keyed_push : (es new : List ((ℕ × ℕ) × List ℕ)) (q o : ℕ) (n : List ℕ) → keys_of es ≡ keys_behind [] (values_of es) → new ≡ es ++ ((q, o), n) ∷ [] → q ≡ hash_of n → o ≡ with_hash (values_of es) (hash_of n) →
+keyed_push : (es new : List ((ℕ × ℕ) × List ℕ)) (key : ℕ × ℕ) (n : List ℕ) → keys_of es ≡ keys_behind [] (values_of es) → new ≡ es ++ (key, n) ∷ [] → key ≡ key_behind (values_of es) n →
     keys_of new ≡ keys_behind [] (values_of new)
-keyed_push es new q o n keyed more hash all =
-    rw (more, map_push, map_push, keyed, hash, all) (sym (keys_push [] (values_of es) n))
+keyed_push es new key n keyed more new_key =
+    ap keys_of more ∙ map_push (λ (e : (ℕ × ℕ) × List ℕ). e.0) es (key, n)
+    ∙ ap (λ (l : List (ℕ × ℕ)). l ++ key ∷ []) keyed ∙ ap (λ (k : ℕ × ℕ). keys_behind [] (values_of es) ++ k ∷ []) new_key
+    ∙ sym (keys_push [] (values_of es) n) ∙ ap (keys_behind []) (sym (ap values_of more ∙ map_push (λ (e : (ℕ × ℕ) × List ℕ). e.1) es (key, n)))
 
 position_push : (t : List ℕ → Bool) (k : ℕ) (names : List (List ℕ)) (n : List ℕ) → position_from t k (names ++ n ∷ []) ≡ option_or (position_from t k names) (cond (t n) (Some (k + length names)) None)
 position_push t k [] n = ap (λ (i : ℕ). cond (t n) (Some i) None) (let z : k ≡ k + 0 = omega arith in z)
@@ -260,9 +262,9 @@ distinct_push names n distinct new = λ k name at.
     ⊎_elim
     (λ old. number_push names n name ∙ ap (λ (r : Option ℕ). option_or r (cond (bytes_eq name n) (Some (length names)) None)) (distinct k name old))
     (λ last. number_push names n name ∙ ap (λ (m : List ℕ). option_or (number_of names m) (cond (bytes_eq m n) (Some (length names)) None)) last.1
-        ∙ ap (λ (r : Option ℕ). option_or r (cond (bytes_eq n n) (Some (length names)) None)) new
-        ∙ ap (λ (b : Bool). cond b (Some (length names)) None) ((bytes_decides n n).1 refl)
-        ∙ ap (λ (i : ℕ). Some i) (sym last.0))
+    ∙ ap (λ (r : Option ℕ). option_or r (cond (bytes_eq n n) (Some (length names)) None)) new
+    ∙ ap (λ (b : Bool). cond b (Some (length names)) None) ((bytes_decides n n).1 refl)
+    ∙ ap (λ (i : ℕ). Some i) (sym last.0))
     (place_push names n name k at)
 
 pub name_at : (es : List ((ℕ × ℕ) × List ℕ)) (i : ℕ) (key : ℕ × ℕ) (n : List ℕ) → Some (key, n) ≡ slice_get es i → slice_get (values_of es) i ≡ Some n
@@ -278,23 +280,23 @@ next_number names name missing = by (nat_lt (number_or_next names name) (length 
         grind (arith, nat_tests)
 
 -- the entries after a new name is inserted
-pub grown : {S : Type 0} (m new : IndexMap (ℕ × ℕ) (List ℕ) S) (q o : ℕ) (text name : List ℕ) → keys_of m.entries ≡ keys_behind [] (values_of m.entries) →
-    new.entries ≡ insert_entry (λ (a b : ℕ × ℕ). is_key a.0 a.1 b) m.entries (q, o) text → text ≡ name → q ≡ hash_of name → o ≡ with_hash (values_of m.entries) (hash_of name) →
-    new.entries ≡ m.entries ++ ((q, o), name) ∷ []
-grown m new q o text name keyed inserted same hash all =
-    inserted ∙ insert_entry-new (λ (a b : ℕ × ℕ). is_key a.0 a.1 b) m (q, o) text (absent_at q o name m.entries keyed hash all)
-    ∙ ap (λ (n : List ℕ). m.entries ++ ((q, o), n) ∷ []) same
+pub grown : {S : Type 0} (m new : IndexMap (ℕ × ℕ) (List ℕ) S) (key : ℕ × ℕ) (text name : List ℕ) → keys_of m.entries ≡ keys_behind [] (values_of m.entries) →
+    new.entries ≡ insert_entry (λ (a b : ℕ × ℕ). is_key a.0 a.1 b) m.entries key text → text ≡ name → key ≡ key_behind (values_of m.entries) name →
+    new.entries ≡ m.entries ++ (key, name) ∷ []
+grown m new key text name keyed inserted same new_key =
+    inserted ∙ insert_entry-new (λ (a b : ℕ × ℕ). is_key a.0 a.1 b) m key text (absent_at key.0 key.1 name m.entries keyed (ap (λ (k : ℕ × ℕ). k.0) new_key) (ap (λ (k : ℕ × ℕ). k.1) new_key))
+    ∙ ap (λ (n : List ℕ). m.entries ++ (key, n) ∷ []) same
 
 pub values_grown : (es new : List ((ℕ × ℕ) × List ℕ)) (key : ℕ × ℕ) (n : List ℕ) → new ≡ es ++ (key, n) ∷ [] → values_of new ≡ values_of es ++ n ∷ []
 values_grown es new key n more = rw (more, map_push) refl
 
-pub kept_push : (es new : List ((ℕ × ℕ) × List ℕ)) (q o most : ℕ) (n : List ℕ) → IsKept (keys_of es) (values_of es) most → new ≡ es ++ ((q, o), n) ∷ [] → q ≡ hash_of n → o ≡ with_hash (values_of es) (hash_of n) →
+pub kept_push : (es new : List ((ℕ × ℕ) × List ℕ)) (key : ℕ × ℕ) (most : ℕ) (n : List ℕ) → IsKept (keys_of es) (values_of es) most → new ≡ es ++ (key, n) ∷ [] → key ≡ key_behind (values_of es) n →
     number_of (values_of es) n ≡ None → length (values_of es) < most → IsKept (keys_of new) (values_of new) most
-kept_push es new q o most n kept more hash all absent room =
-    let values = values_grown es new (q, o) n more in
+kept_push es new key most n kept more new_key absent room =
+    let values = values_grown es new key n more in
     record {
-      keyed = keyed_push es new q o n kept.keyed more hash all;
+      keyed = keyed_push es new key n kept.keyed more new_key;
       distinct = rw values (distinct_push (values_of es) n kept.distinct absent);
       bounded = omega (arith, ap length values, length-append (values_of es) (n ∷ []), room);
-      fits = kept.fits
+      fits = kept.fits;
     }

@@ -5,6 +5,7 @@ use Rattle.std.specs.String.{string_bytes}
 use Rattle.std.specs.declared.string.String.{String}
 use Rattle.std.specs.List.{list_any, position_or_len}
 use Rattle.std.specs.Map.{lookup}
+use Rattle.std.specs.Cmp.Lexicographic.{bytes_decides}
 use Rattle.std.proofs.lemmas.List.{map_push}
 use Rattle.text_names.specs.Entries.{by_bytes}
 
@@ -47,3 +48,15 @@ found_by_bytes {X} es ps q name same view = sym (lookup_by_bytes string_bytes (b
 pub missing_at : {X : Type 0} (p : ℕ → Bool) (xs : List ℕ) (r : Option X) (Q : X → Type 0) → MatchOption r (position_or_len p xs ≡ length xs) Q → IfNone r (list_any p xs ≡ false)
 missing_at p xs None Q h = none_at p xs h
 missing_at p xs (Some x) Q h = tt
+
+-- a new prefix has its IRI
+pub iri_added : (ps new : List (List ℕ × List ℕ)) (prefix iri : List ℕ) → lookup (bytes_eq prefix) ps ≡ None → new ≡ ps ++ (prefix, iri) ∷ [] → lookup (bytes_eq prefix) new ≡ Some iri
+iri_added ps new prefix iri missing more = ap (lookup (bytes_eq prefix)) more ∙ last ps missing
+  where
+    last : (es : List (List ℕ × List ℕ)) → lookup (bytes_eq prefix) es ≡ None → lookup (bytes_eq prefix) (es ++ (prefix, iri) ∷ []) ≡ Some iri
+    last [] h = ap (λ (b : Bool). cond b (Some iri) None) ((bytes_decides prefix prefix).1 refl)
+    last (e ∷ es) h = by (bytes_eq prefix e.0) refl h (last es)
+      where
+        by : (b : Bool) → bytes_eq prefix e.0 ≡ b → lookup (bytes_eq prefix) (e ∷ es) ≡ None → (lookup (bytes_eq prefix) es ≡ None → lookup (bytes_eq prefix) (es ++ (prefix, iri) ∷ []) ≡ Some iri) → lookup (bytes_eq prefix) (e ∷ es ++ (prefix, iri) ∷ []) ≡ Some iri
+        by true same none rest = absurd (let some : lookup (bytes_eq prefix) (e ∷ es) ≡ Some e.1 = rw same refl in let h : ⊥ = cc in h)
+        by false other none rest = rw other (rest (let skip : lookup (bytes_eq prefix) (e ∷ es) ≡ lookup (bytes_eq prefix) es = rw other refl in sym skip ∙ none))

@@ -1,5 +1,5 @@
 -- How a table keeps its names: each under its hash and how many names of this hash stand before it.
-use Rattle.std.specs.Prelude.{◌≡◌, ℕ, ◌^◌, ◌<◌, ◌≤◌, ◌==◌, List, [], ◌∷◌, ◌++◌, length, Option, Some, count_by, slice_get}
+use Rattle.std.specs.Prelude.{◌≡◌, ℕ, ◌^◌, ◌<◌, ◌≤◌, ◌==◌, List, [], ◌∷◌, ◌++◌, length, Some, count_by, slice_get}
 use Rattle.std.specs.Hash.FoldHasher.{initial, write, finish}
 use Rattle.text_names.specs.Names.{number_of}
 
@@ -7,13 +7,17 @@ abbrev pub hash_of : List ℕ → ℕ
 hash_of name = finish (write initial name)
 
 -- how many of the names have this hash
-abbrev pub with_hash : List (List ℕ) → ℕ → ℕ
-with_hash names hash = count_by (λ other. hash_of other == hash) names
+abbrev pub count_with_hash : List (List ℕ) → ℕ → ℕ
+count_with_hash names hash = count_by (λ other. hash_of other == hash) names
+
+-- the key of a name behind others
+abbrev pub key_behind : List (List ℕ) → List ℕ → ℕ × ℕ
+key_behind before name = (hash_of name, count_with_hash before (hash_of name))
 
 -- the keys of names behind others
 abbrev pub keys_behind : List (List ℕ) → List (List ℕ) → List (ℕ × ℕ)
 keys_behind before [] = []
-keys_behind before (name ∷ names) = (hash_of name, with_hash before (hash_of name)) ∷ keys_behind (before ++ name ∷ []) names
+keys_behind before (name ∷ names) = key_behind before name ∷ keys_behind (before ++ name ∷ []) names
 
 -- no name is held twice
 abbrev pub AreDistinct : List (List ℕ) → Type 0

@@ -1,5 +1,5 @@
 -- Names in the order of their numbers.
-use Rattle.std.specs.Prelude.{◌≡◌, ℕ, ◌<◌, Bool, true, false, if◌then◌else◌, List, [], ◌∷◌, ◌++◌, length, Option, is_some, position, bytes_eq}
+use Rattle.std.specs.Prelude.{◌≡◌, ℕ, ◌<◌, Bool, false, if◌then◌else◌, List, [], ◌∷◌, ◌++◌, length, Option, is_some, position, bytes_eq}
 use Rattle.std.specs.List.{position_or_len}
 use Rattle.text_names.specs.declared.names.NameFault.{NameFault}
 use Rattle.text_names.specs.declared.names.NameFault.TheVariants as fault
@@ -24,7 +24,11 @@ number_or_next names name = position_or_len (bytes_eq name) names
 abbrev pub with_name : List (List ℕ) → List ℕ → List (List ℕ)
 with_name names name = if is_held names name then names else names ++ name ∷ []
 
--- why a name has no number: memory is short only where there is room for a new name
+-- the name is new, and no more names may be held
+abbrev pub IsFullFor : Numbering → List ℕ → Type 0
+IsFullFor table name = (is_held table.names name ≡ false) × (length table.names ≡ table.most)
+
+-- why a name has no number: memory is short only where it is new and there is room for it
 abbrev pub IsNameFault : Numbering → List ℕ → NameFault → Type 0
-IsNameFault table name fault.Full = (is_held table.names name ≡ false) × (length table.names ≡ table.most)
+IsNameFault table name fault.Full = IsFullFor table name
 IsNameFault table name fault.OutOfMemory = (is_held table.names name ≡ false) × (length table.names < table.most)

@@ -1,4 +1,5 @@
-//! Texts and bytes, which contracts see as lists of bytes.
+//! Texts and bytes, which contracts see as lists of bytes, and what is built of them alone: places,
+//! prefixes, numbered names, and the limits of the input.
 #![tactic(auto)]
 
 mod bytes;

@@ -13,7 +13,7 @@ pub struct Limits {
     pub properties: u32,
     /// Rows of the table.
     pub rows: u32,
-    /// Class expressions of both ontologies that differ, the names among them.
+    /// Class expressions of both ontologies, each once, with `owl:Thing`, `owl:Nothing` and all names.
     pub nodes: u32,
     /// Property names, and the proper fronts of property chains with two or more properties.
     pub roles: u32,

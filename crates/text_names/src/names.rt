@@ -1,6 +1,6 @@
-ghost use Rattle.std.specs.Prelude.{◌≡◌, ◌++◌, ◌∷◌, ◌<◌, ◌≤◌, [], None, Some, false, length, slice_get, IsUtf8, IfOk, IfErr, OnOk, OnErr};
-ghost use Rattle.text_names.specs.Names.{Numbering, number_of, number_or_next, is_held, with_name};
-ghost use Rattle.text_names.specs.NameKeys.{hash_of as hash_of_name, with_hash};
+ghost use Rattle.std.specs.Prelude.{◌≡◌, ◌++◌, ◌∷◌, ◌<◌, ◌≤◌, [], None, Some, length, slice_get, IsUtf8, IfOk, IfErr, OnOk, OnErr};
+ghost use Rattle.text_names.specs.Names.{number_of, number_or_next, with_name};
+ghost use Rattle.text_names.specs.NameKeys.{hash_of, key_behind};
 
 use crate::Text;
 use crate::text::utf8_str;
@@ -42,7 +42,7 @@ impl Model for NameTable {
 }
 
 impl NameTable {
-    ghost use Rattle.text_names.specs.Names.{IsNameFault};
+    ghost use Rattle.text_names.specs.Names.{IsFullFor, IsNameFault};
 
     /// A table without names, which may hold as many as `most`.
     pub fn new(alloc: Global, most: u32) -> Self
@@ -88,29 +88,31 @@ impl NameTable {
         requires { IsUtf8 name.now }
         ensures number { IfOk result (λ number. number ≡ number_or_next self.old.names name.now) }
         ensures names { OnOk result (self.new.names ≡ with_name self.old.names name.now) }
+        ensures within { IfOk result (λ number. number < length self.new.names) }
         ensures most { self.new.most ≡ self.old.most }
+        ensures full { IsFullFor self.old name.now → result ≡ Err NameFault.Full }
         ensures fault { IfErr result (IsNameFault self.old name.now) }
         ensures err { OnErr result (self.new ≡ self.old) }
     {
-        let clashes = match self.search(name) {
+        let key = match self.search(name) {
             Ok(number) => return Ok(number),
-            Err(clashes) => clashes,
+            Err(key) => key,
         };
         let number = self.len();
         if number >= self.most {
             return Err(NameFault::Full);
         }
-        match self.add(clashes, name) {
+        match self.add(key, name) {
             Ok(()) => Ok(number),
             Err(_) => Err(NameFault::OutOfMemory),
         }
     }
 
-    // The number of a name, or how many names clash with it by their hash.
-    fn search(&self, name: &[u8]) -> Result<u32, u32>
+    // The number of a name, or the key under which it would stand.
+    fn search(&self, name: &[u8]) -> Result<u32, (u64, u32)>
         ensures found { IfOk result (λ number. number_of self.now.names name.now ≡ Some number) }
         ensures missing { OnErr result (number_of self.now.names name.now ≡ None) }
-        ensures clashes { IfErr result (λ clashes. clashes ≡ with_hash self.now.names (hash_of_name name.now)) }
+        ensures key { IfErr result (λ key. key ≡ key_behind self.now.names name.now) }
     {
         let hash = hash_of(name);
         let mut clashes = 0;
@@ -120,27 +122,27 @@ impl NameTable {
             }
             clashes += 1;
         }
-        Err(clashes)
+        Err((hash, clashes))
     }
 
     // Puts a new name behind the others.
-    fn add(&mut self, clashes: u32, name: &[u8]) -> Result<(), AllocError>
+    fn add(&mut self, key: (u64, u32), name: &[u8]) -> Result<(), AllocError>
         requires text { IsUtf8 name.now }
         requires new { number_of self.old.names name.now ≡ None }
         requires room { length self.old.names < self.old.most }
-        requires clashes { clashes ≡ with_hash self.old.names (hash_of_name name.now) }
+        requires key { key ≡ key_behind self.old.names name.now }
         ensures ok { OnOk result (self.new.names ≡ self.old.names ++ name.now ∷ []) }
         ensures most { self.new.most ≡ self.old.most }
         ensures err { OnErr result (self.new ≡ self.old) }
     {
         let text = Text::from_str(self.alloc, utf8_str(name))?;
-        self.names.insert((hash_of(name), clashes), text)?;
+        self.names.insert(key, text)?;
         Ok(())
     }
 }
 
 fn hash_of(name: &[u8]) -> u64
-    ensures { result ≡ hash_of_name name.now }
+    ensures { result ≡ hash_of name.now }
 {
     let mut hasher = FoldHasher::default();
     hasher.write(name);
@@ -162,6 +164,8 @@ mod tests {
         assert_eq!(rt; table.find("ä".as_bytes()), Some(1));
         assert_eq!(rt; table.find(b"c"), None);
         assert_eq!(rt; table.len(), 2);
+        assert!(rt; 1 < table.len());
+        assert_eq!(rt; table.at(1).as_str(), "ä");
         Ok(())
     }
 }

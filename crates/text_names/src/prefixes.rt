@@ -1,4 +1,4 @@
-ghost use Rattle.std.specs.Prelude.{◌≡◌, ◌++◌, ◌∷◌, [], None, true, IsUtf8, IsOk, IfOk, IfErr, IfSome, IfNone, OnOk, OnErr, false};
+ghost use Rattle.std.specs.Prelude.{◌≡◌, ◌++◌, ◌∷◌, [], None, Some, true, IsUtf8, IsOk, IfOk, IfErr, IfSome, IfNone, OnOk, OnErr, false};
 ghost use Rattle.std.specs.Option.{option_copied};
 ghost use Rattle.text_names.specs.Prefixes.{has_colon, prefix_of, rest_of};
 
@@ -57,6 +57,7 @@ impl PrefixMap {
         requires prefix { IsUtf8 prefix.now }
         requires iri { IsUtf8 iri.now }
         ensures ok { OnOk result (self.new ≡ with_prefix self.old prefix.now iri.now) }
+        ensures held { OnOk result (iri_of self.new prefix.now ≡ Some iri.now) }
         ensures again { HasOtherIri self.old prefix.now iri.now → result ≡ Err PrefixFault.Again }
         ensures fault { IfErr result (IsDeclareFault self.old prefix.now iri.now) }
         ensures err { OnErr result (self.new ≡ self.old) }
@@ -120,6 +121,7 @@ impl PrefixMap {
         requires prefix { IsUtf8 prefix.now }
         requires iri { IsUtf8 iri.now }
         ensures ok { OnOk result (self.new ≡ self.old ++ (prefix.now, iri.now) ∷ []) }
+        ensures held { OnOk result (iri_of self.new prefix.now ≡ Some iri.now) }
         ensures err { OnErr result (self.new ≡ self.old) }
     {
         let prefix = String::from_str(self.alloc, utf8_str(prefix))?;
@@ -130,6 +132,7 @@ impl PrefixMap {
 }
 
 // What stands before the first colon and after it.
+#[tactic(auto, using(crate::proofs::PrefixLaws::missing_at))]
 fn split_at_colon(short: &str) -> Option<(&str, &str)>
     ensures found { IfSome result (λ parts. (has_colon short.now ≡ true) × (parts.0.now ≡ prefix_of short.now) × (parts.1.now ≡ rest_of short.now)) }
     ensures missing { IfNone result (has_colon short.now ≡ false) }

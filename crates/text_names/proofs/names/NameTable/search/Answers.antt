@@ -1,9 +1,9 @@
-use Rattle.std.proofs.Common.{◌≡◌, ◌<◌, ◌≤◌, ◌+◌, ◌^◌, ◌∙◌, sym, ap, List, ℕ, arith, length}
+use Rattle.std.proofs.Common.{◌≡◌, ◌<◌, ◌≤◌, ◌∙◌, sym, ap, List, ℕ, arith, length}
 use Rattle.std.specs.Prelude.{◌==◌, bytes_eq}
 use Rattle.indexmap.specs.IndexMap.{values}
 use Rattle.std.proofs.lemmas.List.Sums.{count_by-le-length}
 use Rattle.text_names.specs.Names.{number_of}
-use Rattle.text_names.specs.NameKeys.{hash_of, with_hash}
+use Rattle.text_names.specs.NameKeys.{hash_of, count_with_hash}
 use Rattle.text_names.proofs.NameLaws.{seek_start, found_at, passed_at, ended_at, below, beyond}
 use Rattle.text_names.proofs.names.NameTable.search.Goals as goal
 
@@ -21,8 +21,8 @@ returns-then-eq-clause-found c =
 pub overflow_add-clashes : goal.overflow_add-clashes
 overflow_add-clashes c =
     let names = values c.self.inside.names in
-    let less : c.loop-number.clashes < with_hash names (hash_of c.args.name.now) = below c.hash_of-hash.result c.loop-number.clashes c.args.name.now c.self.inside.names.entries c.self.invariant.keyed c.hash_of-hash.ensures c.in-Some.held.now c.in-Some.ensures.value in
-    let count : with_hash names (hash_of c.args.name.now) ≤ length names = count_by-le-length (λ (other : List ℕ). hash_of other == hash_of c.args.name.now) names in
+    let less : c.loop-number.clashes < count_with_hash names (hash_of c.args.name.now) = below c.hash_of-hash.result c.loop-number.clashes c.args.name.now c.self.inside.names.entries c.self.invariant.keyed c.hash_of-hash.ensures c.in-Some.held.now c.in-Some.ensures.value in
+    let count : count_with_hash names (hash_of c.args.name.now) ≤ length names = count_by-le-length (λ (other : List ℕ). hash_of other == hash_of c.args.name.now) names in
     omega (arith, less, count, c.self.invariant.bounded, c.self.invariant.fits)
 
 pub loop-number-smaller : goal.loop-number-smaller
@@ -38,7 +38,7 @@ loop-number-preserved c =
     let less = below c.hash_of-hash.result c.loop-number.clashes name es c.self.invariant.keyed c.hash_of-hash.ensures c.in-Some.held.now c.in-Some.ensures.value in
     record {
       rest = passed_at c.hash_of-hash.result c.loop-number.clashes name es c.self.invariant.keyed c.hash_of-hash.ensures c.loop-number.invariant.rest c.in-Some.number c.in-Some.held.now c.in-Some.ensures.index c.in-Some.ensures.value other;
-      within = omega (arith, less)
+      within = omega (arith, less);
     }
 
 pub returns-clause-missing : goal.returns-clause-missing
@@ -46,8 +46,9 @@ returns-clause-missing c =
     ap (λ (l : List (List ℕ)). number_of l c.args.name.now) (ap (λ t. t.names) (sym c.self.view_is))
     ∙ ended_at c.hash_of-hash.result c.loop-number.clashes c.args.name.now c.self.inside.names.entries c.self.invariant.keyed c.hash_of-hash.ensures c.loop-number.invariant.rest c.in_default.ensures.index
 
-pub returns-clause-clashes : goal.returns-clause-clashes
-returns-clause-clashes c =
+pub returns-clause-key : goal.returns-clause-key
+returns-clause-key c =
     let high = beyond c.hash_of-hash.result c.loop-number.clashes c.args.name.now c.self.inside.names.entries c.self.invariant.keyed c.hash_of-hash.ensures c.in_default.ensures.value in
-    let same = ap (λ t. with_hash t.names (hash_of c.args.name.now)) c.self.view_is in
-    omega (arith, high, c.loop-number.invariant.within, same)
+    let same = ap (λ t. count_with_hash t.names (hash_of c.args.name.now)) c.self.view_is in
+    let clashes : c.loop-number.clashes ≡ count_with_hash c.args.self.now.names (hash_of c.args.name.now) = omega (arith, high, c.loop-number.invariant.within, same) in
+    λ i. (c.hash_of-hash.ensures i, clashes i)
