@@ -1,6 +1,6 @@
 //! Worked cases on `repair`, over files in memory.
-use repair_run::repair;
 use io_edge::{MemFolder, MemSink};
+use repair_run::repair;
 use std::alloc::{AllocError, Global};
 use std::process::Abort;
 use std::test::Fail;
@@ -93,22 +93,54 @@ fn repairs_the_worked_tables(rt: HostRuntime) -> Result<(), Fail> {
         b"l:B\tskos:exactMatch\tr:Y\t0.8",
         b"l:B\tskos:broadMatch\tr:Y\t0.7",
     ];
-    keeps(&rt, alloc, one, two, &rows, &[rows[0], rows[2]], b"alod: rows 3 kept 2 removed 1 inert 0 omitted 0\n")?;
-    keeps(&rt, alloc, one, two, &[], &[], b"alod: rows 0 kept 0 removed 0 inert 0 omitted 0\n")?;
+    keeps(
+        &rt,
+        alloc,
+        one,
+        two,
+        &rows,
+        &[rows[0], rows[2]],
+        b"alod: rows 3 kept 2 removed 1 inert 0 omitted 0\n",
+    )?;
+    keeps(
+        &rt,
+        alloc,
+        one,
+        two,
+        &[],
+        &[],
+        b"alod: rows 0 kept 0 removed 0 inert 0 omitted 0\n",
+    )?;
     let rows: [&[u8]; 3] = [
         b"r:X\tskos:broadMatch\tl:A\t0.9",
         b"r:X\tskos:broadMatch\tl:B\t0.8",
         b"r:X\tskos:broadMatch\tl:B\t0.8",
     ];
     let declared = b"Declaration(Class(:X))";
-    keeps(&rt, alloc, one, declared, &rows, &[rows[0]], b"alod: rows 3 kept 1 removed 2 inert 0 omitted 0\n")?;
+    keeps(
+        &rt,
+        alloc,
+        one,
+        declared,
+        &rows,
+        &[rows[0]],
+        b"alod: rows 3 kept 1 removed 2 inert 0 omitted 0\n",
+    )?;
     let chain = b"DisjointClasses(:A :B) DisjointClasses(:B :C)";
     let rows: [&[u8]; 3] = [
         b"r:X\tskos:broadMatch\tl:A\t0.9",
         b"r:X\tskos:broadMatch\tl:B\t0.8",
         b"r:X\tskos:broadMatch\tl:C\t0.7",
     ];
-    keeps(&rt, alloc, chain, declared, &rows, &[rows[0], rows[2]], b"alod: rows 3 kept 2 removed 1 inert 0 omitted 0\n")?;
+    keeps(
+        &rt,
+        alloc,
+        chain,
+        declared,
+        &rows,
+        &[rows[0], rows[2]],
+        b"alod: rows 3 kept 2 removed 1 inert 0 omitted 0\n",
+    )?;
     Ok(())
 }
 
@@ -137,8 +169,14 @@ fn refuses_what_is_not_built(rt: HostRuntime) -> Result<(), Fail> {
     let wrong: [(&[u8], bool); 9] = [
         (good, true),
         (b"Prefix(:=<http://l/>) Ontology(SubClassOf(:A :B))\n", true),
-        (b"Prefix(:=<http://l/>) Ontology(SubClassOf(:A :B))\n\n", false),
-        (b"Prefix(:=<http://l/>) Ontology(SubClassOf(:A :B))\r\n", false),
+        (
+            b"Prefix(:=<http://l/>) Ontology(SubClassOf(:A :B))\n\n",
+            false,
+        ),
+        (
+            b"Prefix(:=<http://l/>) Ontology(SubClassOf(:A :B))\r\n",
+            false,
+        ),
         (b"Prefix(:=<http://l/>) Ontology(SubClassOf(:A  :B))", false),
         (b"Prefix(:=<http://l/>)  Ontology()", false),
         (b"Prefix(:=<http://l/>) Ontology(SubClassOf(:A :B)", false),
@@ -179,10 +217,26 @@ fn refuses_long_files(rt: HostRuntime) -> Result<(), Fail> {
 fn names_the_first_empty_class(rt: HostRuntime) -> Result<(), Fail> {
     let alloc = rt.alloc();
     let cases: [(&[u8], &[u8], &[u8]); 4] = [
-        (b"DisjointClasses(:A :A)", b"SubClassOf(:X :Y)", b"alod: LEFT incoherent: <http://l/A>\n"),
-        (b"", b"SubClassOf(:X :Y) DisjointClasses(:Y :Y)", b"alod: RIGHT incoherent: <http://r/X>\n"),
-        (b"DisjointClasses(:A :A)", b"DisjointClasses(:X :X)", b"alod: LEFT incoherent: <http://l/A>\n"),
-        (b"SubClassOf(:B :C) DisjointClasses(:C :B)", b"", b"alod: LEFT incoherent: <http://l/B>\n"),
+        (
+            b"DisjointClasses(:A :A)",
+            b"SubClassOf(:X :Y)",
+            b"alod: LEFT incoherent: <http://l/A>\n",
+        ),
+        (
+            b"",
+            b"SubClassOf(:X :Y) DisjointClasses(:Y :Y)",
+            b"alod: RIGHT incoherent: <http://r/X>\n",
+        ),
+        (
+            b"DisjointClasses(:A :A)",
+            b"DisjointClasses(:X :X)",
+            b"alod: LEFT incoherent: <http://l/A>\n",
+        ),
+        (
+            b"SubClassOf(:B :C) DisjointClasses(:C :B)",
+            b"",
+            b"alod: LEFT incoherent: <http://l/B>\n",
+        ),
     ];
     for (left, right, line) in cases {
         let mut folder = folder(alloc, left, right, &[])?;
@@ -191,7 +245,13 @@ fn names_the_first_empty_class(rt: HostRuntime) -> Result<(), Fail> {
     let mut both = folder(alloc, b"SubClassOf(:A :B)", b"", &[])?;
     let right = document(alloc, b"http://l/", b"DisjointClasses(:A :B)")?;
     both.set(alloc, &text(alloc, b"RIGHT")?, right.as_slice())?;
-    refuses(&rt, alloc, &mut both, 5, b"alod: LEFT and RIGHT incoherent: <http://l/A>\n")?;
+    refuses(
+        &rt,
+        alloc,
+        &mut both,
+        5,
+        b"alod: LEFT and RIGHT incoherent: <http://l/A>\n",
+    )?;
     Ok(())
 }
 
@@ -213,7 +273,10 @@ fn refuses_wrong_words(rt: HostRuntime) -> Result<(), Fail> {
         let words = texts(alloc, words)?;
         let status = repair(alloc, words.as_slice(), &mut folder, &mut out);
         assert_eq!(rt; status.number(), 2);
-        assert_eq!(rt; out.bytes(), b"alod: usage: alod LEFT RIGHT MAP OUT\n".as_slice());
+        assert_eq!(rt;
+            out.bytes(),
+            b"alod: usage: alod LEFT RIGHT MAP OUT\n".as_slice()
+        );
         assert!(rt; folder.file(&text(alloc, b"OUT")?).is_none());
     }
     Ok(())
