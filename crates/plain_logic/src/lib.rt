@@ -1,0 +1,9 @@
+//! Subclass and disjointness axioms between class names, and which classes they leave empty.
+#![tactic(auto)]
+
+mod axioms;
+mod reach;
+mod theory;
+
+pub use axioms::{PlainAxiom, PlainRow};
+pub use theory::Theory;
