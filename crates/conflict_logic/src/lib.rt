@@ -1,6 +1,9 @@
 //! Conflicts, accused ranks and repairs, for any family of incoherent sets of ranks.
 #![tactic(auto)]
 
+pub mod greedy;
+pub mod worked;
+
 ghost use Rattle.std.specs.Prelude.{◌↔◌, ℕ, List};
 ghost use Rattle.conflict_logic.specs.Accused.{IsAccused, IsSpared, IsLastOfConflict};
 
