@@ -2,6 +2,7 @@
 #![tactic(auto)]
 
 pub mod greedy;
+pub mod repair;
 pub mod worked;
 
 ghost use Rattle.std.specs.Prelude.{◌↔◌, ℕ, List};
