@@ -2,6 +2,7 @@
 #![tactic(auto)]
 
 pub mod greedy;
+pub mod order;
 pub mod repair;
 pub mod worked;
 
