@@ -1,5 +1,5 @@
 -- Rows in the order of their confidence.
-use Rattle.std.proofs.Common.{◌≡◌, ◌≢◌, ◌⊎◌, ℕ, zero, suc, ◌<◌, ◌≤◌, ◌+◌, Bool, true, false, cond, List, [], ◌∷◌, length, get_or, slice_index, Contains, ⊎_elim, inl, inr, subst, sym, ap, refl, ◌∙◌, nat_lt, nat_eq, arith}
+use Rattle.std.proofs.Common.{◌≡◌, ℕ, zero, suc, ◌<◌, ◌≤◌, ◌+◌, Bool, true, false, cond, List, [], ◌∷◌, length, get_or, slice_index, ⊎_elim, inl, inr, subst, sym, ap, ◌∙◌, nat_lt, nat_eq, zero-add, arith}
 use Rattle.std.specs.List.{range_with_len, count_by, IsDistinct}
 use Rattle.std.specs.List.Sorted.{IsPermutation, IsSortedBy, IsStableBy, ties}
 use Rattle.std.specs.Cmp.{IsStrictWeakOrder}
@@ -7,9 +7,10 @@ use Rattle.std.specs.Ordering.{is_lt, nat_cmp}
 use Rattle.std.proofs.lemmas.Bool.{cases_lt, cases_eq, ltb-false, le-ltb, eqb-false, ne_eqb}
 use Rattle.std.proofs.lemmas.Cmp.{nat_cmp_total}
 use Rattle.std.proofs.lemmas.List.FromFn.{length-range_with_len, get_or-range_with_len}
+use Rattle.std.proofs.lemmas.Grind.{get_or_default_zero}
 use Rattle.std.proofs.lemmas.Bool.Decides.{nat_tests}
 use Rattle.std.proofs.lemmas.List.Sums.{sum_by-cons}
-use Rattle.std.proofs.lemmas.List.Sorted.{ties_stay_sorted, IsStrictWeakOrder-by_number, IsStrictWeakOrder-flip, ranks_by, sum_by-IsPermutation, length_permutation}
+use Rattle.std.proofs.lemmas.List.Sorted.{ties_stay_sorted, IsStrictWeakOrder-by_number, IsStrictWeakOrder-flip, ranks_by, sum_by-IsPermutation, Contains-permutation}
 use Rattle.std.proofs.lemmas.Map.Keys.{IsDistinct-from_apart, IsDistinct-IsPermutation, apart_from_distinct, ge_from_not_lt}
 use Rattle.conflict_logic.specs.Order.{IsBefore, is_before, rank_of, IsRanking}
 
@@ -62,6 +63,14 @@ module _ (confidences rows : List ℕ) (ranking : IsRanking confidences rows) wh
       (λ later. IsBefore-one_way confidences row (slice_index rows k) (far_before place k later high) before)
       (λ no_later. let same : k ≡ place = omega arith in IsBefore-one_way confidences row row (subst (λ i. IsBefore confidences (slice_index rows i) row) same before) (subst (λ i. IsBefore confidences (slice_index rows i) row) same before))
       (cases_lt place k)))
+
+  pub row_of_rank : (row : ℕ) → row < length confidences → slice_index rows (rank_of confidences row) ≡ row
+  row_of_rank row within =
+      let numbers = range_with_len 0 (length confidences) in
+      let inside : row < length numbers = omega (arith, length-range_with_len 0 (length confidences)) in
+      let found = Contains-permutation numbers rows row ranking.each_once (row, inside, get_or-range_with_len 0 (length confidences) row row within ∙ zero-add row) in
+      let at_place : slice_index rows found.0 ≡ row = sym (get_or_default_zero rows found.0 row found.1) ∙ found.2 in
+      ap (λ other. slice_index rows (rank_of confidences other)) (sym at_place) ∙ ap (slice_index rows) (rank_of_place found.0 found.1) ∙ at_place
 
 -- the second row of two has the greater confidence
 abbrev pub rises : List ℕ → ℕ → ℕ → Bool

@@ -4,6 +4,8 @@
 pub mod greedy;
 pub mod order;
 pub mod repair;
+#[cfg(test)]
+mod tests;
 pub mod worked;
 
 ghost use Rattle.std.specs.Prelude.{◌↔◌, ℕ, List};

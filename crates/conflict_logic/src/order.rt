@@ -29,8 +29,10 @@ pub fn rank(alloc: Global, confidences: &[u128]) -> Result<Vec<u32>, AllocError>
     Ok(rows)
 }
 
-/// In the order of the ranks, the row at a place has that place as its rank: as many rows stand before it.
+/// Rows in order of rank and ranks of rows are each other's inverse.
 pub fn ranking_lists_by_rank()
-    ensures { (confidences rows : List ℕ) (place : ℕ) → IsRanking confidences rows → place < length rows
+    ensures rank_of_place { (confidences rows : List ℕ) (place : ℕ) → IsRanking confidences rows → place < length rows
         → rank_of confidences (slice_index rows place) ≡ place }
+    ensures row_of_rank { (confidences rows : List ℕ) (row : ℕ) → IsRanking confidences rows → row < length confidences
+        → slice_index rows (rank_of confidences row) ≡ row }
 {}

@@ -25,7 +25,7 @@ loop-rank-preserved g c =
           record {
             repair = subst (IsRepair incoherent (rank + 1)) (sym longer) (repair_with incoherent closed rank kept so_far.repair (subst (λ ranks. ¬ (incoherent (ranks ++ rank ∷ []))) so_far.same says.0));
             state = c.in_ok-accept.ensures.state;
-            same = says.1 ∙ ap (λ ranks. ranks ++ rank ∷ []) so_far.same ∙ sym longer;
+            same = says.1 ∙ ◌∙◌ {c = c.if-branch.kept.items} (ap (λ ranks. ranks ++ rank ∷ []) so_far.same) (sym longer);
           }
       | else-branch w ↦
           let says = OnFalse_at w.if-branch.false c.in_ok-accept.ensures.refused in
