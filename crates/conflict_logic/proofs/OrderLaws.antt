@@ -1,17 +1,15 @@
 -- Rows in the order of their confidence.
-use Rattle.std.proofs.Common.{◌≡◌, ℕ, zero, suc, ◌<◌, ◌≤◌, ◌+◌, Bool, true, false, cond, List, [], ◌∷◌, length, get_or, slice_index, ⊎_elim, inl, inr, subst, sym, ap, ◌∙◌, nat_lt, nat_eq, zero-add, arith}
+use Rattle.std.proofs.Common.{◌≡◌, ◌≢◌, ◌⊎◌, ℕ, zero, suc, ◌<◌, ◌≤◌, ◌+◌, Bool, true, false, cond, List, [], ◌∷◌, length, get_or, slice_index, ⊎_elim, inl, inr, subst, sym, ap, ◌∙◌, nat_eq, zero-add, arith}
 use Rattle.std.specs.List.{range_with_len, count_by, IsDistinct}
-use Rattle.std.specs.List.Sorted.{IsPermutation, IsSortedBy, IsStableBy, ties}
-use Rattle.std.specs.Cmp.{IsStrictWeakOrder}
-use Rattle.std.specs.Ordering.{is_lt, nat_cmp}
-use Rattle.std.proofs.lemmas.Bool.{cases_lt, cases_eq, ltb-false, le-ltb, eqb-false, ne_eqb}
-use Rattle.std.proofs.lemmas.Cmp.{nat_cmp_total}
+use Rattle.std.specs.List.Sorted.{IsPermutation, IsSortedBy}
+use Rattle.std.specs.Ordering.{is_lt, nat_cmp, ordering_then}
+use Rattle.std.proofs.lemmas.Bool.{cases_lt, cases_eq, eqb-false, ne_eqb}
 use Rattle.std.proofs.lemmas.List.FromFn.{length-range_with_len, get_or-range_with_len}
 use Rattle.std.proofs.lemmas.Grind.{get_or_default_zero}
 use Rattle.std.proofs.lemmas.Bool.Decides.{nat_tests}
 use Rattle.std.proofs.lemmas.List.Sums.{sum_by-cons}
-use Rattle.std.proofs.lemmas.List.Sorted.{ties_stay_sorted, IsStrictWeakOrder-by_number, IsStrictWeakOrder-flip, ranks_by, sum_by-IsPermutation, Contains-permutation}
-use Rattle.std.proofs.lemmas.Map.Keys.{IsDistinct-from_apart, IsDistinct-IsPermutation, apart_from_distinct, ge_from_not_lt}
+use Rattle.std.proofs.lemmas.List.Sorted.{sum_by-IsPermutation, Contains-permutation}
+use Rattle.std.proofs.lemmas.Map.Keys.{IsDistinct-from_apart, IsDistinct-IsPermutation, apart_from_distinct}
 use Rattle.conflict_logic.specs.Order.{IsBefore, is_before, rank_of, IsRanking}
 
 IsBefore-trans : (confidences : List ℕ) (a b c : ℕ) → IsBefore confidences a b → IsBefore confidences b c → IsBefore confidences a c
@@ -72,45 +70,44 @@ module _ (confidences rows : List ℕ) (ranking : IsRanking confidences rows) wh
       let at_place : slice_index rows found.0 ≡ row = sym (get_or_default_zero rows found.0 row found.1) ∙ found.2 in
       ap (λ other. slice_index rows (rank_of confidences other)) (sym at_place) ∙ ap (slice_index rows) (rank_of_place found.0 found.1) ∙ at_place
 
--- the second row of two has the greater confidence
-abbrev pub rises : List ℕ → ℕ → ℕ → Bool
-rises confidences a b = is_lt (nat_cmp (slice_index confidences b) (slice_index confidences a))
+-- the order of the keys that are a confidence, the greater first, and then a row
+abbrev pub has_smaller_key : List ℕ → ℕ → ℕ → Bool
+has_smaller_key confidences a b = is_lt (ordering_then (nat_cmp (slice_index confidences b) (slice_index confidences a)) (nat_cmp a b))
 
-rises_weakly : (confidences : List ℕ) → IsStrictWeakOrder (rises confidences)
-rises_weakly confidences = IsStrictWeakOrder-flip (λ a b. is_lt (nat_cmp (slice_index confidences a) (slice_index confidences b))) (ranks_by nat_cmp_total (slice_index confidences))
+not_less : (x y a b : ℕ) → is_lt (ordering_then (nat_cmp x y) (nat_cmp b a)) ≡ false → y ≤ x
+not_less x y a b not_smaller = ⊎_elim (λ (less : x < y). grind (arith, nat_tests)) (λ ge. ge) (cases_lt x y)
 
--- two rows tie where neither has the greater confidence
-tie_of_equal : (confidences : List ℕ) (a b : ℕ) → slice_index confidences a ≡ slice_index confidences b → ties (rises confidences) a b ≡ true
-tie_of_equal confidences a b same = grind (arith, nat_tests)
+not_later : (x a b : ℕ) → is_lt (ordering_then (nat_cmp x x) (nat_cmp b a)) ≡ false → a ≤ b
+not_later x a b not_smaller = ⊎_elim (λ (less : b < a). grind (arith, nat_tests)) (λ ge. ge) (cases_lt b a)
+
+by_numbers : (x y a b : ℕ) → a ≢ b → is_lt (ordering_then (nat_cmp x y) (nat_cmp b a)) ≡ false → (y < x) ⊎ ((x ≡ y) × (a < b))
+by_numbers x y a b differ not_smaller = ⊎_elim inl
+    (λ le.
+    let same : y ≡ x = omega (arith, not_less x y a b not_smaller) in
+    let no_later = not_later x a b (subst (λ z. is_lt (ordering_then (nat_cmp x z) (nat_cmp b a)) ≡ false) same not_smaller) in
+    inr (sym same, omega arith))
+    (cases_lt y x)
+
+before_by_key : (confidences : List ℕ) (a b : ℕ) → a ≢ b → has_smaller_key confidences b a ≡ false → IsBefore confidences a b
+before_by_key confidences a b differ not_smaller = by_numbers (slice_index confidences a) (slice_index confidences b) a b differ not_smaller
 
 nat_eq-flips : (a b : ℕ) → nat_eq a b ≡ nat_eq b a
 nat_eq-flips a b = ⊎_elim (λ same. grind (arith, nat_tests)) (λ differs. grind (arith, nat_tests)) (cases_eq a b)
 
-numbers_rise : (count : ℕ) → IsSortedBy nat_lt (range_with_len 0 count)
-numbers_rise count k d low high =
-    let within : k + 1 < count = omega (arith, length-range_with_len 0 count) in
-    le-ltb (get_or (range_with_len 0 count) (k + 1) d) (get_or (range_with_len 0 count) k d)
-    (omega (arith, get_or-range_with_len 0 count (k + 1) d within, get_or-range_with_len 0 count k d (omega arith)))
-
 numbers_differ : (count : ℕ) → IsDistinct nat_eq (range_with_len 0 count)
-numbers_differ count = IsDistinct-from_apart nat_eq (range_with_len 0 count) (λ i j d low inside.
+numbers_differ count = IsDistinct-from_apart nat_eq (range_with_len 0 count)
+    (λ i j d low inside.
     let within : j < count = omega (arith, length-range_with_len 0 count) in
     ne_eqb (get_or (range_with_len 0 count) i d) (get_or (range_with_len 0 count) j d)
     (λ same. omega (arith, get_or-range_with_len 0 count i d (omega arith), get_or-range_with_len 0 count j d within)))
 
--- a stable sort that puts the greater confidence first ranks the rows
-pub ranking_from_sort : (confidences rows : List ℕ) → IsPermutation (range_with_len 0 (length confidences)) rows → IsSortedBy (rises confidences) rows → IsStableBy (rises confidences) (range_with_len 0 (length confidences)) rows → IsRanking confidences rows
-ranking_from_sort confidences rows each_once sorted stable = record {
+-- rows that are sorted by their keys are ranked
+pub ranking_from_sort : (confidences rows : List ℕ) → IsPermutation (range_with_len 0 (length confidences)) rows → IsSortedBy (has_smaller_key confidences) rows → IsRanking confidences rows
+ranking_from_sort confidences rows each_once sorted = record {
   each_once = each_once;
   in_order = λ k within.
-      let numbers = range_with_len 0 (length confidences) in
-      let not_greater : slice_index confidences (slice_index rows (k + 1)) ≤ slice_index confidences (slice_index rows k) =
-      ge_from_not_lt (slice_index confidences (slice_index rows k)) (slice_index confidences (slice_index rows (k + 1))) (sorted k 0 (omega arith) within) in
-      ⊎_elim inl
-      (λ not_less.
-      let same : slice_index confidences (slice_index rows k) ≡ slice_index confidences (slice_index rows (k + 1)) = omega arith in
-      let kept_order = ltb-false (slice_index rows (k + 1)) (slice_index rows k) (ties_stay_sorted nat_lt (rises confidences) (IsStrictWeakOrder-by_number (λ row. row)) (rises_weakly confidences) numbers rows (numbers_rise (length confidences)) stable k 0 within (tie_of_equal confidences (slice_index rows k) (slice_index rows (k + 1)) same)) in
-      let differ = eqb-false (slice_index rows k) (slice_index rows (k + 1)) (apart_from_distinct nat_eq rows k (k + 1) 0 (IsDistinct-IsPermutation nat_eq nat_eq-flips numbers rows each_once (numbers_differ (length confidences))) (omega arith) within) in
-      inr (same, omega arith))
-      (cases_lt (slice_index confidences (slice_index rows (k + 1))) (slice_index confidences (slice_index rows k)));
+      let distinct = IsDistinct-IsPermutation nat_eq nat_eq-flips (range_with_len 0 (length confidences)) rows each_once (numbers_differ (length confidences)) in
+      before_by_key confidences (slice_index rows k) (slice_index rows (k + 1))
+      (eqb-false (slice_index rows k) (slice_index rows (k + 1)) (apart_from_distinct nat_eq rows k (k + 1) 0 distinct (omega arith) within))
+      (sorted k 0 (omega arith) within);
 }

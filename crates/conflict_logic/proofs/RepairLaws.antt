@@ -5,7 +5,7 @@ use Rattle.std.proofs.lemmas.List.Elements.{Contains-append_left, Contains-push,
 use Rattle.conflict_logic.specs.Sets.{IsPart, IsClosedUnderAdding}
 use Rattle.conflict_logic.specs.Accused.{IsAccused, IsSpared}
 use Rattle.conflict_logic.specs.Repair.{IsRepair}
-use Rattle.conflict_logic.proofs.SetLemmas.{Contains-nil, contains_or_not, IsStrictlyIncreasing-push}
+use Rattle.conflict_logic.proofs.SetLemmas.{Contains-nil, contains_or_not, IsStrictlyIncreasing-push, IsStrictlyIncreasing-unique}
 use Rattle.conflict_logic.proofs.AccusedLaws.{accused_opens, accused_closes}
 use Rattle.conflict_logic.proofs.ConflictLaws.{with_conflict}
 
@@ -18,6 +18,12 @@ module _ (incoherent : List ℕ → Type 0) where
     kept_is_spared = λ rank held. absurd (Contains-nil rank held);
     spared_is_kept = λ rank within. absurd (omega arith);
   }
+
+  -- both keep just the ranks below the count that are spared
+  pub one_repair : (count : ℕ) (kept other : List ℕ) → IsRepair incoherent count kept → IsRepair incoherent count other → kept ≡ other
+  one_repair count kept other repair repair_too = IsStrictlyIncreasing-unique kept other repair.ascending repair_too.ascending
+      (λ rank held. repair_too.spared_is_kept rank (repair.below rank held) (repair.kept_is_spared rank held))
+      (λ rank held. repair.spared_is_kept rank (repair_too.below rank held) (repair_too.kept_is_spared rank held))
 
   module _ (closed : IsClosedUnderAdding incoherent) (rank : ℕ) (kept : List ℕ) (repair : IsRepair incoherent rank kept) where
     holds_newest : (part : List ℕ) → IsPart part (kept ++ rank ∷ []) → incoherent part → Contains part rank

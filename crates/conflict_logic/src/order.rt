@@ -25,7 +25,7 @@ pub fn rank(alloc: Global, confidences: &[u128]) -> Result<Vec<u32>, AllocError>
     ensures { IfOk result (λ rows. IsRanking confidences.now rows.items) }
 {
     let mut rows = row_numbers(alloc, confidences.len() as u32)?;
-    rows.sort_by_key(|row| Reverse(confidence_of(confidences, *row)))?;
+    rows.sort_by_key(|row| (Reverse(confidence_of(confidences, *row)), *row))?;
     Ok(rows)
 }
 

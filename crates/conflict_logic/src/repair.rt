@@ -8,6 +8,14 @@ ghost use Rattle.conflict_logic.specs.Repair.{IsRepair};
 use crate::Family;
 use std::alloc::{AllocError, Global};
 
+/// A family has one repair at most: whoever keeps the ranks that are not accused keeps the same ones.
+pub fn repair_is_unique<F: Family>(family: &F)
+    ensures { (count : ℕ) (kept other : List ℕ) → IsRepair (F.incoherent family.now) count kept
+        → IsRepair (F.incoherent family.now) count other → kept ≡ other }
+{
+    let _ = family;
+}
+
 /// An exact test of a family, over a state that grows with the ranks taken in.
 pub trait CoherenceTest: Family {
     /// What is known of the ranks taken in, so that a further rank need not go over them again.

@@ -21,7 +21,7 @@ loop-rank-preserved g c =
     elim c.if-branch.branch [
       | then-branch+in_ok-push w ↦
           let says = OnTrue_at w.if-branch.true c.in_ok-accept.ensures.accepted in
-          let longer : c.if-branch.kept.items ≡ kept ++ rank ∷ [] = ap (λ vec. vec.items) w.kept-is ∙ w.in_ok-push.ensures.items in
+          let longer : c.if-branch.kept.items ≡ kept ++ rank ∷ [] = ◌∙◌ {c = kept ++ rank ∷ []} (ap (λ vec. vec.items) w.kept-is) w.in_ok-push.ensures.items in
           record {
             repair = subst (IsRepair incoherent (rank + 1)) (sym longer) (repair_with incoherent closed rank kept so_far.repair (subst (λ ranks. ¬ (incoherent (ranks ++ rank ∷ []))) so_far.same says.0));
             state = c.in_ok-accept.ensures.state;
