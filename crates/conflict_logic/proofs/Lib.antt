@@ -1,1 +1,7 @@
 pub mod AccusedLaws
+pub mod SetLemmas
+pub mod ConflictLaws
+pub mod RepairLaws
+pub mod GreedyLaws
+pub mod OrderLaws
+pub mod WorkedLaws

@@ -2,3 +2,5 @@ pub mod Sets
 pub mod Order
 pub mod Accused
 pub mod Repair
+pub mod Greedy
+pub mod Worked

@@ -1,6 +1,13 @@
 //! Conflicts, accused ranks and repairs, for any family of incoherent sets of ranks.
 #![tactic(auto)]
 
+pub mod greedy;
+pub mod order;
+pub mod repair;
+#[cfg(test)]
+mod tests;
+pub mod worked;
+
 ghost use Rattle.std.specs.Prelude.{◌↔◌, ℕ, List};
 ghost use Rattle.conflict_logic.specs.Accused.{IsAccused, IsSpared, IsLastOfConflict};
 

@@ -1,0 +1,113 @@
+-- Rows in the order of their confidence.
+use Rattle.std.proofs.Common.{◌≡◌, ◌≢◌, ◌⊎◌, ℕ, zero, suc, ◌<◌, ◌≤◌, ◌+◌, Bool, true, false, cond, List, [], ◌∷◌, length, get_or, slice_index, ⊎_elim, inl, inr, subst, sym, ap, ◌∙◌, nat_eq, zero-add, arith}
+use Rattle.std.specs.List.{range_with_len, count_by, IsDistinct}
+use Rattle.std.specs.List.Sorted.{IsPermutation, IsSortedBy}
+use Rattle.std.specs.Ordering.{is_lt, nat_cmp, ordering_then}
+use Rattle.std.proofs.lemmas.Bool.{cases_lt, cases_eq, eqb-false, ne_eqb}
+use Rattle.std.proofs.lemmas.List.FromFn.{length-range_with_len, get_or-range_with_len}
+use Rattle.std.proofs.lemmas.Grind.{get_or_default_zero}
+use Rattle.std.proofs.lemmas.Bool.Decides.{nat_tests}
+use Rattle.std.proofs.lemmas.List.Sums.{sum_by-cons}
+use Rattle.std.proofs.lemmas.List.Sorted.{sum_by-IsPermutation, Contains-permutation}
+use Rattle.std.proofs.lemmas.Map.Keys.{IsDistinct-from_apart, IsDistinct-IsPermutation, apart_from_distinct}
+use Rattle.conflict_logic.specs.Order.{IsBefore, is_before, rank_of, IsRanking}
+
+IsBefore-trans : (confidences : List ℕ) (a b c : ℕ) → IsBefore confidences a b → IsBefore confidences b c → IsBefore confidences a c
+IsBefore-trans confidences a b c first second =
+    ⊎_elim
+    (λ greater. inl (⊎_elim (λ more. omega arith) (λ tie. omega arith) second))
+    (λ tie. ⊎_elim (λ more. inl (omega arith)) (λ tie_too. inr (omega arith, omega arith)) second)
+    first
+
+IsBefore-one_way : (confidences : List ℕ) (a b : ℕ) → IsBefore confidences a b → ¬ (IsBefore confidences b a)
+IsBefore-one_way confidences a b first second =
+    ⊎_elim (λ greater. ⊎_elim (λ more. omega arith) (λ tie. omega arith) second) (λ tie. ⊎_elim (λ more. omega arith) (λ tie_too. omega arith) second) first
+
+is_before_yes : (confidences : List ℕ) (a b : ℕ) → IsBefore confidences a b → is_before confidences a b ≡ true
+is_before_yes confidences a b before = grind (arith, nat_tests)
+
+is_before_no : (confidences : List ℕ) (a b : ℕ) → ¬ (IsBefore confidences a b) → is_before confidences a b ≡ false
+is_before_no confidences a b not_before = grind (arith, nat_tests)
+
+-- a test that passes just in front counts the front
+count_by_front : (test : ℕ → Bool) (xs : List ℕ) (front : ℕ) → front ≤ length xs → ((k : ℕ) → k < front → test (get_or xs k 0) ≡ true) → ((k : ℕ) → front ≤ k → k < length xs → test (get_or xs k 0) ≡ false) → count_by test xs ≡ front
+count_by_front test [] front within passes fails = omega arith
+count_by_front test (x ∷ xs) zero within passes fails =
+    sum_by-cons (λ y. cond (test y) 1 0) x xs
+    ∙ ap (λ answer. cond answer 1 0 + count_by test xs) (fails 0 (omega arith) (omega arith))
+    ∙ omega (arith, count_by_front test xs zero (omega arith) (λ k low. absurd (omega arith)) (λ k low high. fails (suc k) (omega arith) (omega arith)))
+count_by_front test (x ∷ xs) (suc front) within passes fails =
+    sum_by-cons (λ y. cond (test y) 1 0) x xs
+    ∙ ap (λ answer. cond answer 1 0 + count_by test xs) (passes 0 (omega arith))
+    ∙ omega (arith, count_by_front test xs front (omega arith) (λ k low. passes (suc k) (omega arith)) (λ k low high. fails (suc k) (omega arith) (omega arith)))
+
+module _ (confidences rows : List ℕ) (ranking : IsRanking confidences rows) where
+  far_before : (i j : ℕ) → i < j → j < length rows → IsBefore confidences (slice_index rows i) (slice_index rows j)
+  far_before i zero low within = absurd (omega arith)
+  far_before i (suc j) low within =
+      let follows : j + 1 ≡ suc j = omega arith in
+      let next = subst (λ k. IsBefore confidences (slice_index rows j) (slice_index rows k)) follows (ranking.in_order j (omega arith)) in
+      ⊎_elim (λ earlier. IsBefore-trans confidences (slice_index rows i) (slice_index rows j) (slice_index rows (suc j)) (far_before i j earlier (omega arith)) next)
+      (λ late. let same : j ≡ i = omega arith in subst (λ k. IsBefore confidences (slice_index rows k) (slice_index rows (suc j))) same next)
+      (cases_lt i j)
+
+  pub rank_of_place : (place : ℕ) → place < length rows → rank_of confidences (slice_index rows place) ≡ place
+  rank_of_place place within =
+      let row = slice_index rows place in
+      sym (sum_by-IsPermutation (λ other. cond (is_before confidences other row) 1 0) (range_with_len 0 (length confidences)) rows ranking.each_once)
+      ∙ count_by_front (λ other. is_before confidences other row) rows place (omega arith)
+      (λ k low. is_before_yes confidences (slice_index rows k) row (far_before k place low within))
+      (λ k low high. is_before_no confidences (slice_index rows k) row (λ before. ⊎_elim
+      (λ later. IsBefore-one_way confidences row (slice_index rows k) (far_before place k later high) before)
+      (λ no_later. let same : k ≡ place = omega arith in IsBefore-one_way confidences row row (subst (λ i. IsBefore confidences (slice_index rows i) row) same before) (subst (λ i. IsBefore confidences (slice_index rows i) row) same before))
+      (cases_lt place k)))
+
+  pub row_of_rank : (row : ℕ) → row < length confidences → slice_index rows (rank_of confidences row) ≡ row
+  row_of_rank row within =
+      let numbers = range_with_len 0 (length confidences) in
+      let inside : row < length numbers = omega (arith, length-range_with_len 0 (length confidences)) in
+      let found = Contains-permutation numbers rows row ranking.each_once (row, inside, get_or-range_with_len 0 (length confidences) row row within ∙ zero-add row) in
+      let at_place : slice_index rows found.0 ≡ row = sym (get_or_default_zero rows found.0 row found.1) ∙ found.2 in
+      ap (λ other. slice_index rows (rank_of confidences other)) (sym at_place) ∙ ap (slice_index rows) (rank_of_place found.0 found.1) ∙ at_place
+
+-- the order of the keys that are a confidence, the greater first, and then a row
+abbrev pub has_smaller_key : List ℕ → ℕ → ℕ → Bool
+has_smaller_key confidences a b = is_lt (ordering_then (nat_cmp (slice_index confidences b) (slice_index confidences a)) (nat_cmp a b))
+
+not_less : (x y a b : ℕ) → is_lt (ordering_then (nat_cmp x y) (nat_cmp b a)) ≡ false → y ≤ x
+not_less x y a b not_smaller = ⊎_elim (λ (less : x < y). grind (arith, nat_tests)) (λ ge. ge) (cases_lt x y)
+
+not_later : (x a b : ℕ) → is_lt (ordering_then (nat_cmp x x) (nat_cmp b a)) ≡ false → a ≤ b
+not_later x a b not_smaller = ⊎_elim (λ (less : b < a). grind (arith, nat_tests)) (λ ge. ge) (cases_lt b a)
+
+by_numbers : (x y a b : ℕ) → a ≢ b → is_lt (ordering_then (nat_cmp x y) (nat_cmp b a)) ≡ false → (y < x) ⊎ ((x ≡ y) × (a < b))
+by_numbers x y a b differ not_smaller = ⊎_elim inl
+    (λ le.
+    let same : y ≡ x = omega (arith, not_less x y a b not_smaller) in
+    let no_later = not_later x a b (subst (λ z. is_lt (ordering_then (nat_cmp x z) (nat_cmp b a)) ≡ false) same not_smaller) in
+    inr (sym same, omega arith))
+    (cases_lt y x)
+
+before_by_key : (confidences : List ℕ) (a b : ℕ) → a ≢ b → has_smaller_key confidences b a ≡ false → IsBefore confidences a b
+before_by_key confidences a b differ not_smaller = by_numbers (slice_index confidences a) (slice_index confidences b) a b differ not_smaller
+
+nat_eq-flips : (a b : ℕ) → nat_eq a b ≡ nat_eq b a
+nat_eq-flips a b = ⊎_elim (λ same. grind (arith, nat_tests)) (λ differs. grind (arith, nat_tests)) (cases_eq a b)
+
+numbers_differ : (count : ℕ) → IsDistinct nat_eq (range_with_len 0 count)
+numbers_differ count = IsDistinct-from_apart nat_eq (range_with_len 0 count)
+    (λ i j d low inside.
+    let within : j < count = omega (arith, length-range_with_len 0 count) in
+    ne_eqb (get_or (range_with_len 0 count) i d) (get_or (range_with_len 0 count) j d)
+    (λ same. omega (arith, get_or-range_with_len 0 count i d (omega arith), get_or-range_with_len 0 count j d within)))
+
+-- rows that are sorted by their keys are ranked
+pub ranking_from_sort : (confidences rows : List ℕ) → IsPermutation (range_with_len 0 (length confidences)) rows → IsSortedBy (has_smaller_key confidences) rows → IsRanking confidences rows
+ranking_from_sort confidences rows each_once sorted = record {
+  each_once = each_once;
+  in_order = λ k within.
+      let distinct = IsDistinct-IsPermutation nat_eq nat_eq-flips (range_with_len 0 (length confidences)) rows each_once (numbers_differ (length confidences)) in
+      before_by_key confidences (slice_index rows k) (slice_index rows (k + 1))
+      (eqb-false (slice_index rows k) (slice_index rows (k + 1)) (apart_from_distinct nat_eq rows k (k + 1) 0 distinct (omega arith) within))
+      (sorted k 0 (omega arith) within);
+}
