@@ -16,7 +16,8 @@ use Rattle.plain_logic.specs.Added.{marks_with, found_with_all}
 use Rattle.plain_logic.specs.Theory.{classes_of, IsTheory, IsSized, AreCoherent, AreIncoherent}
 use Rattle.plain_logic.proofs.FoundLaws.{IsSearched, searched_none, searched_more, searched_all, few}
 use Rattle.plain_logic.proofs.UnderLaws.{crossed_is_broken}
-use Rattle.plain_logic.proofs.ModelLaws.{IsWhole, broken_is_empty, marked_has_member, thing_has_member, cons_cases, head_of}
+use Rattle.plain_logic.proofs.ModelLaws.{IsWhole, broken_is_empty, marked_has_member, thing_has_member}
+use Rattle.plain_logic.specs.HoldsLaws.{cons_cases, head_of}
 
 -- every search has an end
 module _ (edges : List (List ℕ)) (starts : List ℕ) (bounded : AreBounded edges) (below : All (λ s. s < length edges) starts) where

@@ -4,3 +4,4 @@ pub mod UnderLaws
 pub mod ModelLaws
 pub mod CoherenceLaws
 pub mod PutLaws
+pub mod RankSteps

@@ -11,33 +11,19 @@ use Rattle.el_logic.specs.Meaning.{IsInterp, IsMember, Holds, members_of}
 use Rattle.el_logic.specs.Incoherent.{IsModel, IsEmptyClass}
 use Rattle.plain_logic.specs.declared.axioms.PlainAxiom.{PlainAxiom}
 use Rattle.plain_logic.specs.declared.axioms.PlainAxiom.TheVariants.{SubClass, Disjoint}
+use Rattle.plain_logic.specs.HoldsLaws.{holds_of, all_mapped}
 use Rattle.plain_logic.specs.Paths.{IsPath, Leads, IsEdge, AreBounded}
 use Rattle.plain_logic.specs.Plain.{axiom_of, NamesBelow, IsDirectlyBelow, IsUnder, IsBroken}
 use Rattle.plain_logic.specs.Reach.{is_marked, IsReach}
 
-pub cons_cases : {X : Type 0} → (x : X) (xs : List X) (y : X) → Contains (x ∷ xs) y → (x ≡ y) ⊎ Contains xs y
-cons_cases x xs y h = ⊎_elim (λ one. ⊎_elim (λ (none : Contains [] y). absurd (omega (arith, none.1))) inl (Contains-push_cases [] x y one)) inr (Contains-append_cases (x ∷ []) xs y h)
-
-pub head_of : {X : Type 0} → (x : X) (xs : List X) → Contains (x ∷ xs) x
-head_of x xs = Contains-append_left (x ∷ []) xs x (Contains-push [] x)
-
-all_mapped : (P : Axiom → Type 0) (ps : List PlainAxiom) → ((p : PlainAxiom) → Contains ps p → P (axiom_of p)) → All P (map axiom_of ps)
-all_mapped P [] h = All-nil P
-all_mapped P (p ∷ ps) h = All-cons P (axiom_of p) (map axiom_of ps) (h p (head_of p ps)) (all_mapped P ps (λ q k. h q (Contains-append_right (p ∷ []) ps q k)))
-
 -- following the axioms in any interpretation
 module _ (i : Interp) where
-  holds_of : (ps : List PlainAxiom) (p : PlainAxiom) → All (Holds i) (map axiom_of ps) → Contains ps p → Holds i (axiom_of p)
-  holds_of [] p h k = absurd (omega (arith, k.1))
-  holds_of (q ∷ ps) p h k = ⊎_elim (λ (same : q ≡ p). subst (λ (x : PlainAxiom). Holds i (axiom_of x)) same (All-head (Holds i) (axiom_of q) (map axiom_of ps) h))
-      (λ rest. holds_of ps p (All-tail (Holds i) (axiom_of q) (map axiom_of ps) h) rest) (cons_cases q ps p k)
-
   follow : (axioms : List PlainAxiom) → All (Holds i) (map axiom_of axioms) → (x lower upper : ℕ) → IsUnder axioms lower upper → IsMember i x (Name lower) → IsMember i x (Name upper)
   follow axioms holds x lower upper (path, h) m = along path lower h m
     where
       along : (path : List ℕ) (lower : ℕ) → IsPath (IsDirectlyBelow axioms) lower path upper → IsMember i x (Name lower) → IsMember i x (Name upper)
       along [] lower h m = subst (λ (c : ℕ). IsMember i x (Name c)) h m
-      along (next ∷ path) lower h m = along path next h.1 (holds_of axioms (SubClass lower next) holds h.0 x m)
+      along (next ∷ path) lower h m = along path next h.1 (holds_of i axioms (SubClass lower next) holds h.0 x m)
 
 pub broken_is_empty : (classes : ℕ) (axioms : List PlainAxiom) (class : ℕ) → IsBroken axioms class → IsEmptyClass classes 0 (map axiom_of axioms) (Name class)
 broken_is_empty classes axioms class (one, other, held, u, v) i model x m =

@@ -1,6 +1,6 @@
 -- A theory with one more axiom, and back.
 use Rattle.std.proofs.Common.{◌≡◌, ◌⊎◌, ℕ, ◌<◌, Bool, true, false, List, [], ◌∷◌, ◌++◌, length, set, map, refl, sym, ◌∙◌, ap, subst, Contains, All, ⊎_elim, inl, inr, MatchBool, MatchOption, Option, Some, None, append_assoc, arith}
-use Rattle.std.proofs.lemmas.List.{length-set, set-get_or, get_or-set_same, map-append}
+use Rattle.std.proofs.lemmas.List.{length-set, set-set, set-get_or, get_or-set_same, map-append}
 use Rattle.std.proofs.lemmas.List.Elements.{All-nil, All-cons, All-head, All-tail, Contains-append_left, Contains-push, Contains-push_cases}
 use Rattle.el_logic.specs.declared.types.Axiom.{Axiom}
 use Rattle.el_logic.specs.Meaning.{Holds}
@@ -9,7 +9,7 @@ use Rattle.plain_logic.specs.declared.axioms.PlainAxiom.TheVariants.{SubClass, D
 use Rattle.plain_logic.specs.declared.theory.Theory.{Theory}
 use Rattle.plain_logic.specs.Paths.{IsEdge, next_of}
 use Rattle.plain_logic.specs.Plain.{axiom_of, IsSomeBroken, AreUnbroken}
-use Rattle.plain_logic.specs.Theory.{classes_of, IsTheory, IsSized, IsPutBelow, IsTakenBack, IsPair, AreCoherent, AreIncoherent}
+use Rattle.plain_logic.specs.Theory.{classes_of, IsTheory, IsSized, IsPutBelow, IsTakenBack, IsPair, AnswersRow, AreCoherent, AreIncoherent}
 use Rattle.plain_logic.proofs.EdgeLaws.{with_next, more_cases, more_stays, more_stands}
 use Rattle.plain_logic.proofs.CoherenceLaws.{some_broken_incoherent, unbroken_coherent}
 
@@ -87,3 +87,67 @@ unbroken_new false more old new h e same sized is = subst (λ (n : ℕ). AreCohe
 
 pub put_classes : (old new : Theory) (lower upper : ℕ) → IsPutBelow old new lower upper → classes_of new ≡ classes_of old
 put_classes old new lower upper p = ap {B = ℕ} (λ (x : List (List ℕ)). length x) p.uppers ∙ length-set old.upper.items lower (next_of old.upper.items lower ++ upper ∷ [])
+
+-- what was put below last, taken back
+theory_moved : (axioms : List PlainAxiom) (old new : Theory) → new.upper.items ≡ old.upper.items → new.lower.items ≡ old.lower.items → new.disjoint.items ≡ old.disjoint.items → IsTheory axioms old → IsTheory axioms new
+theory_moved axioms old new e f g is = record {
+  upper_stands = λ a b h. is.upper_stands a b (subst (λ (x : List (List ℕ)). IsEdge x a b) e h);
+  all_upper = λ a b h. subst (λ (x : List (List ℕ)). IsEdge x a b) (sym e) (is.all_upper a b h);
+  lower_stands = λ a b h. is.lower_stands a b (subst (λ (x : List (List ℕ)). IsEdge x b a) f h);
+  all_lower = λ a b h. subst (λ (x : List (List ℕ)). IsEdge x b a) (sym f) (is.all_lower a b h);
+  disjoint_stands = λ a b h. is.disjoint_stands a b (subst (λ (x : List (ℕ × ℕ)). Contains x (a, b)) g h);
+  all_disjoint = λ a b h. subst (λ (x : List (ℕ × ℕ)). Contains x (a, b)) (sym g) (is.all_disjoint a b h);
+}
+
+back_again : (edges mid new : List (List ℕ)) (at more : ℕ) → at < length edges → mid ≡ with_next edges at (next_of edges at ++ more ∷ []) → ((rest : List ℕ) (last : ℕ) → next_of mid at ≡ rest ++ last ∷ [] → new ≡ set mid at rest) → new ≡ edges
+back_again edges mid new at more l e back =
+    let there : next_of mid at ≡ next_of edges at ++ more ∷ [] = ap (λ (x : List (List ℕ)). next_of x at) e ∙ get_or-set_same edges at (next_of edges at ++ more ∷ []) [] l in
+    back (next_of edges at) more there ∙ ap (λ (x : List (List ℕ)). set x at (next_of edges at)) e ∙ set-set edges at (next_of edges at ++ more ∷ []) (next_of edges at) ∙ set-get_or edges at []
+
+pub taken_back_is : (axioms : List PlainAxiom) (old mid new : Theory) (lower upper : ℕ) → IsSized old → lower < classes_of old → upper < classes_of old → IsPutBelow old mid lower upper → IsTakenBack mid new lower upper → IsTheory axioms old → IsTheory axioms new
+taken_back_is axioms old mid new lower upper sized l u p b is =
+    theory_moved axioms old new (back_again old.upper.items mid.upper.items new.upper.items lower upper l p.uppers b.uppers)
+    (back_again old.lower.items mid.lower.items new.lower.items upper lower (subst (λ (n : ℕ). upper < n) (sym sized.same) u) p.lowers b.lowers) (b.pairs ∙ p.pairs) is
+
+pub same_is : (axioms : List PlainAxiom) (old new : Theory) → new ≡ old → IsTheory axioms old → IsTheory axioms new
+same_is axioms old new e is = subst (IsTheory axioms) (sym e) is
+
+-- more axioms stay incoherent
+front_of : (P : Axiom → Type 0) (xs ys : List Axiom) → All P (xs ++ ys) → All P xs
+front_of P [] ys h = All-nil P
+front_of P (x ∷ xs) ys h = All-cons P x xs (All-head P x (xs ++ ys) h) (front_of P xs ys (All-tail P x (xs ++ ys) h))
+
+pub more_incoherent : (classes : ℕ) (axioms more : List PlainAxiom) → AreIncoherent classes axioms → AreIncoherent classes (axioms ++ more)
+more_incoherent classes axioms more (class, held, empty) =
+    (class, held, λ i model. empty i (record { fits = model.fits; holds = front_of (Holds i) (map axiom_of axioms) (map axiom_of more) (subst (All (Holds i)) (map-append axiom_of axioms more) model.holds) }))
+
+-- an answer by what it is
+pub taken_in : (classes : ℕ) (axioms more : List PlainAxiom) (new : Theory) (taken : Bool) → AnswersRow classes axioms more new taken → taken ≡ true → AreCoherent classes (axioms ++ more) × IsTheory (axioms ++ more) new
+taken_in classes axioms more new true h e = h
+taken_in classes axioms more new false h e = absurd (unlike e)
+  where
+    unlike : false ≡ true → ⊥
+    unlike e = cc
+
+pub left_out : (classes : ℕ) (axioms more : List PlainAxiom) (new : Theory) (taken : Bool) → AnswersRow classes axioms more new taken → taken ≡ false → AreIncoherent classes (axioms ++ more) × IsTheory axioms new
+left_out classes axioms more new false h e = h
+left_out classes axioms more new true h e = absurd (unlike e)
+  where
+    unlike : true ≡ false → ⊥
+    unlike e = cc
+
+two : (axioms : List PlainAxiom) (a b : PlainAxiom) → (axioms ++ a ∷ []) ++ b ∷ [] ≡ axioms ++ (a ∷ b ∷ [])
+two axioms a b = append_assoc axioms (a ∷ []) (b ∷ [])
+
+pub first_left_out : (classes : ℕ) (axioms : List PlainAxiom) (a b : PlainAxiom) (new : Theory) (taken : Bool) → AnswersRow classes axioms (a ∷ []) new taken → taken ≡ false → AreIncoherent classes (axioms ++ (a ∷ b ∷ [])) × IsTheory axioms new
+first_left_out classes axioms a b new taken h e =
+    let o = left_out classes axioms (a ∷ []) new taken h e in
+    (subst (AreIncoherent classes) (two axioms a b) (more_incoherent classes (axioms ++ a ∷ []) (b ∷ []) o.0), o.1)
+
+pub both_taken_in : (classes : ℕ) (axioms : List PlainAxiom) (a b : PlainAxiom) (new : Theory) (taken : Bool) → AnswersRow classes (axioms ++ a ∷ []) (b ∷ []) new taken → taken ≡ true → AreCoherent classes (axioms ++ (a ∷ b ∷ [])) × IsTheory (axioms ++ (a ∷ b ∷ [])) new
+both_taken_in classes axioms a b new taken h e =
+    let o = taken_in classes (axioms ++ a ∷ []) (b ∷ []) new taken h e in
+    (subst (AreCoherent classes) (two axioms a b) o.0, subst (λ (x : List PlainAxiom). IsTheory x new) (two axioms a b) o.1)
+
+pub second_left_out : (classes : ℕ) (axioms : List PlainAxiom) (a b : PlainAxiom) (new : Theory) (taken : Bool) → AnswersRow classes (axioms ++ a ∷ []) (b ∷ []) new taken → taken ≡ false → AreIncoherent classes (axioms ++ (a ∷ b ∷ []))
+second_left_out classes axioms a b new taken h e = subst (AreIncoherent classes) (two axioms a b) (left_out classes (axioms ++ a ∷ []) (b ∷ []) new taken h e).0

@@ -4,3 +4,6 @@ pub mod Reach
 pub mod Added
 pub mod Theory
 pub mod Crossing
+pub mod Ranks
+pub mod HoldsLaws
+pub mod RankLaws

@@ -1,5 +1,5 @@
 -- Axioms kept as a graph.
-use Rattle.std.specs.Prelude.{◌≡◌, ℕ, List, [], ◌∷◌, ◌++◌, length, map, Contains, slice_set}
+use Rattle.std.specs.Prelude.{◌≡◌, ℕ, List, [], ◌∷◌, ◌++◌, length, map, Bool, MatchBool, Contains, slice_set}
 use Rattle.el_logic.specs.Incoherent.{IsCoherent, IsIncoherent}
 use Rattle.plain_logic.specs.declared.axioms.PlainAxiom.{PlainAxiom}
 use Rattle.plain_logic.specs.declared.axioms.PlainAxiom.TheVariants.{SubClass, Disjoint}
@@ -50,3 +50,8 @@ pub record IsSized (t : Theory) : Type 0 where
   pub same : length t.lower.items ≡ length t.upper.items
   pub upper_bounded : AreBounded t.upper.items
   pub lower_bounded : AreBounded t.lower.items
+
+-- more axioms are taken in where all are coherent then, and else the theory is as before
+abbrev pub AnswersRow : ℕ → List PlainAxiom → List PlainAxiom → Theory → Bool → Type 0
+AnswersRow classes axioms more new taken =
+    MatchBool taken (AreCoherent classes (axioms ++ more) × IsTheory (axioms ++ more) new) (AreIncoherent classes (axioms ++ more) × IsTheory axioms new)

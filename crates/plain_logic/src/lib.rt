@@ -2,8 +2,10 @@
 #![tactic(auto)]
 
 mod axioms;
+mod case;
 mod reach;
 mod theory;
 
 pub use axioms::{PlainAxiom, PlainRow};
+pub use case::{Case, Taken};
 pub use theory::Theory;

@@ -4,7 +4,7 @@ ghost use Rattle.plain_logic.specs.Paths.{AreBounded, next_of};
 ghost use Rattle.plain_logic.specs.Crossing.{IsCrossed, Crosses};
 ghost use Rattle.plain_logic.specs.Reach.{is_marked};
 ghost use Rattle.plain_logic.specs.declared.axioms.PlainAxiom.{PlainAxiom};
-ghost use Rattle.plain_logic.specs.Plain.{AreUnbroken, IsSomeBroken, NamesBelow, axiom_of, axioms_of_row};
+ghost use Rattle.plain_logic.specs.Plain.{AreUnbroken, IsSomeBroken, NamesBelow, RowBelow, axiom_of, axioms_of_row};
 ghost use Rattle.el_logic.specs.Incoherent.{IsFirstEmpty};
 ghost use Rattle.el_logic.specs.declared.types.Expr.TheVariants.{Name};
 
@@ -77,7 +77,7 @@ fn pop_edge(edges: &mut Vec<Numbers>, from: u32)
 }
 
 impl Theory {
-    ghost use Rattle.plain_logic.specs.Theory.{classes_of, IsSized, IsTheory, IsPutBelow, IsTakenBack, IsPair, AreCoherent, AreIncoherent};
+    ghost use Rattle.plain_logic.specs.Theory.{classes_of, IsSized, IsTheory, IsPutBelow, IsTakenBack, IsPair, AnswersRow, AreCoherent, AreIncoherent};
     ghost use Rattle.plain_logic.specs.Plain.{IsUnder, IsBroken};
 
     /// A theory over these classes, without axioms.
@@ -162,7 +162,7 @@ impl Theory {
         ensures classes { OnOk result (classes_of self.new ≡ classes_of self.old) }
         ensures taken { IfOk result (λ taken. IsTrue taken → IsPutBelow self.old self.new lower upper) }
         ensures refused { IfOk result (λ taken. taken ≡ false → self.new ≡ self.old) }
-        ensures answer { (axioms : List PlainAxiom) → IsTheory axioms self.old → AreCoherent (classes_of self.old) axioms → IfOk result (λ taken. MatchBool taken (AreCoherent (classes_of self.old) (axioms ++ PlainAxiom.SubClass lower upper ∷ [])) (AreIncoherent (classes_of self.old) (axioms ++ PlainAxiom.SubClass lower upper ∷ []))) }
+        ensures answer { (axioms : List PlainAxiom) → IsTheory axioms self.old → AreCoherent (classes_of self.old) axioms → IfOk result (λ taken. AnswersRow (classes_of self.old) axioms (PlainAxiom.SubClass lower upper ∷ []) self.new taken) }
     {
         if self.breaks(alloc, lower, upper)? {
             return Ok(false);
@@ -182,6 +182,40 @@ impl Theory {
         match axiom {
             PlainAxiom::SubClass(lower, upper) => self.put_below(*lower, *upper),
             PlainAxiom::Disjoint(one, other) => self.put_disjoint(*one, *other),
+        }
+    }
+
+    // Puts each class below the other, unless a class would be empty then; whether it did.
+    fn accept_equal(&mut self, alloc: Global, one: u32, other: u32) -> Result<bool, AllocError>
+        requires sized { IsSized self.old }
+        requires one { one < classes_of self.old }
+        requires other { other < classes_of self.old }
+        ensures still { OnOk result (IsSized self.new) }
+        ensures classes { OnOk result (classes_of self.new ≡ classes_of self.old) }
+        ensures answer { (axioms : List PlainAxiom) → IsTheory axioms self.old → AreCoherent (classes_of self.old) axioms → IfOk result (λ taken. AnswersRow (classes_of self.old) axioms (PlainAxiom.SubClass one other ∷ PlainAxiom.SubClass other one ∷ []) self.new taken) }
+    {
+        if !self.accept_below(alloc, one, other)? {
+            return Ok(false);
+        }
+        if self.accept_below(alloc, other, one)? {
+            return Ok(true);
+        }
+        self.take_back(one, other);
+        Ok(false)
+    }
+
+    /// Takes in what a row says, unless a class would be empty then; answers whether it did.
+    pub fn accept(&mut self, alloc: Global, row: &PlainRow) -> Result<bool, AllocError>
+        requires sized { IsSized self.old }
+        requires names { RowBelow (classes_of self.old) row.now }
+        ensures still { OnOk result (IsSized self.new) }
+        ensures classes { OnOk result (classes_of self.new ≡ classes_of self.old) }
+        ensures answer { (axioms : List PlainAxiom) → IsTheory axioms self.old → AreCoherent (classes_of self.old) axioms → IfOk result (λ taken. AnswersRow (classes_of self.old) axioms (axioms_of_row row.now) self.new taken) }
+    {
+        match row {
+            PlainRow::Inert => Ok(true),
+            PlainRow::Below(lower, upper) => self.accept_below(alloc, *lower, *upper),
+            PlainRow::Equal(one, other) => self.accept_equal(alloc, *one, *other),
         }
     }
 
