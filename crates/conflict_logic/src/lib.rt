@@ -1,4 +1,4 @@
-//! Conflicts, accused ranks and repairs, for any family of incoherent sets of ranks.
+//! Conflicts, accused ranks, repairs and the order of ranks, for any family of incoherent sets of ranks.
 #![tactic(auto)]
 
 pub mod greedy;

@@ -59,7 +59,8 @@ pub fn choose<T: CoherenceTest>(alloc: Global, test: &T, count: u32) -> Result<V
     let mut state = test.begin(alloc)?;
     let mut kept = Vec::new(alloc);
     for rank in 0..count {
-        if test.accept(alloc, &mut state, rank)? {
+        let accepted = test.accept(alloc, &mut state, rank)?;
+        if accepted {
             kept.push(rank)?;
         }
     }
