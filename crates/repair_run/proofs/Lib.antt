@@ -5,3 +5,4 @@ pub mod DocumentLaws
 pub mod TableLaws
 pub mod RunLaws
 pub mod AsciiLaws
+pub mod ChoiceLaws

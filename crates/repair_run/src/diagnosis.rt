@@ -1,13 +1,19 @@
 //! The rows to keep.
-ghost use Rattle.std.specs.Prelude.{◌≡◌, ◌≤◌, length, IfOk, IfErr};
+ghost use Rattle.std.specs.Prelude.{◌≡◌, ◌<◌, ◌≤◌, length, All, IfOk, IfErr, OnOk};
+ghost use Rattle.conflict_logic.specs.Order.{IsRanking};
+ghost use Rattle.plain_logic.specs.Plain.{NamesBelow, RowBelow};
+ghost use Rattle.plain_logic.specs.Theory.{AreCoherent};
+ghost use Rattle.repair_run.specs.Choice.{confidences_of, rows_at, AreMarked, IsChosen};
 ghost use Rattle.repair_run.specs.FirstForm.{AreOfForm};
 ghost use Rattle.repair_run.specs.Run.{kept_count, IsDiagnosisStop};
 
 use crate::first_form::{DocumentText, RowText, TableText};
-use crate::plain::{PlainAxiom, PlainRow, plain_axioms, plain_row};
+use crate::plain::{plain_axioms, plain_row};
 use crate::status::Status;
-use crate::theory::Theory;
+use conflict_logic::order::rank;
+use conflict_logic::repair::choose;
 use el_logic::Part;
+use plain_logic::{Case, PlainAxiom, PlainRow, Theory};
 use std::alloc::{AllocError, Global};
 use text_names::NameTable;
 
@@ -21,23 +27,36 @@ pub struct Diagnosis {
     pub inert: usize,
 }
 
-// The rows by confidence, the greatest first, and among equals in the order of the table.
-fn ranking(alloc: Global, rows: &[RowText]) -> Result<Vec<usize>, AllocError> {
-    let mut order = Vec::with_capacity(alloc, rows.len())?;
-    for tenths in (0..10u8).rev() {
-        for (place, row) in rows.iter().enumerate() {
-            if row.tenths == tenths {
-                order.push(place)?;
-            }
-        }
-    }
-    Ok(order)
+fn confidences(alloc: Global, rows: &[RowText]) -> Result<Vec<u128>, AllocError>
+    ensures { IfOk result (λ tenths. tenths.items ≡ confidences_of rows.now) }
+{
+    rows.iter().map(|row| row.tenths as u128).collect(alloc)
 }
 
-// Finds the first class that is empty in a part, and refuses with it.
-fn check_part(alloc: Global, names: &NameTable, part: Part, theory: &Theory) -> Result<(), Status>
-    ensures { IfErr result IsDiagnosisStop }
+// The rows in the order of their ranks. A table of so many rows that their numbers need more than 32 bits is no file
+// of the size that is read.
+fn ranking(alloc: Global, rows: &[RowText]) -> Result<Vec<u32>, AllocError>
+    ensures { IfOk result (IsRanking (confidences_of rows.now)) }
 {
+    let confidences = confidences(alloc, rows)?;
+    if confidences.len() > u32::MAX as usize {
+        return Err(AllocError);
+    }
+    rank(alloc, confidences.as_slice())
+}
+
+// Finds the first class that the axioms of a part leave empty, and refuses with it.
+fn check_part(
+    alloc: Global,
+    names: &NameTable,
+    part: Part,
+    axioms: &[PlainAxiom],
+) -> Result<(), Status>
+    requires { All (NamesBelow (length names.now.names)) axioms.now }
+    ensures coherent { OnOk result (AreCoherent (length names.now.names) axioms.now) }
+    ensures err { IfErr result IsDiagnosisStop }
+{
+    let theory = Theory::of(alloc, names.len(), axioms)?;
     let Some(class) = theory.first_empty(alloc, names.len())? else {
         return Ok(());
     };
@@ -45,66 +64,92 @@ fn check_part(alloc: Global, names: &NameTable, part: Part, theory: &Theory) -> 
     Err(Status::Incoherent { part, class })
 }
 
-// The theory of both documents, where LEFT, RIGHT and both together leave no class empty.
-fn coherent_theory(
+// The axioms of both documents, where LEFT, RIGHT and both together leave no class empty.
+fn coherent_axioms(
     alloc: Global,
     names: &NameTable,
-    left: &[PlainAxiom],
+    left: Vec<PlainAxiom>,
     right: &[PlainAxiom],
-) -> Result<Theory, Status>
-    ensures { IfErr result IsDiagnosisStop }
+) -> Result<Vec<PlainAxiom>, Status>
+    requires left { All (NamesBelow (length names.now.names)) left.items }
+    requires right { All (NamesBelow (length names.now.names)) right.now }
+    ensures names { IfOk result (λ both. All (NamesBelow (length names.now.names)) both.items) }
+    ensures coherent { IfOk result (λ both. AreCoherent (length names.now.names) both.items) }
+    ensures err { IfErr result IsDiagnosisStop }
 {
-    let mut theory = Theory::new(alloc, names.len())?;
-    theory.add(left)?;
-    check_part(alloc, names, Part::Left, &theory)?;
-    let mut alone = Theory::new(alloc, names.len())?;
-    alone.add(right)?;
-    check_part(alloc, names, Part::Right, &alone)?;
-    theory.add(right)?;
-    check_part(alloc, names, Part::Both, &theory)?;
-    Ok(theory)
+    check_part(alloc, names, Part::Left, left.as_slice())?;
+    check_part(alloc, names, Part::Right, right)?;
+    let mut both = left;
+    both.extend_from_slice(right)?;
+    check_part(alloc, names, Part::Both, both.as_slice())?;
+    Ok(both)
 }
 
-// What each row says.
-fn plain_rows(
+// What each row says, in this order.
+fn ranked_rows(
     alloc: Global,
     names: &NameTable,
     table: &TableText,
+    order: &[u32],
 ) -> Result<Vec<PlainRow>, AllocError>
-    ensures { IfOk result (λ rows. length rows.items ≡ length table.now.rows) }
+    requires { All (λ row. row < length table.now.rows) order.now }
+    ensures { IfOk result (λ rows. All (RowBelow (length names.now.names)) rows.items) }
 {
-    let mut rows = Vec::with_capacity(alloc, table.rows.len())?;
-    for row in table.rows.as_slice() {
+    let mut rows = Vec::with_capacity(alloc, order.len())?;
+    for number in order {
+        let row = &table.rows.as_slice()[*number as usize];
         rows.push(plain_row(alloc, names, table, row)?)?;
     }
     Ok(rows)
 }
 
-// Accepts each row that leaves no class empty together with those accepted before it.
-fn choose(
-    alloc: Global,
-    theory: &mut Theory,
-    order: &[usize],
-    rows: &[PlainRow],
-) -> Result<Vec<bool>, AllocError>
-    ensures { IfOk result (λ keep. length keep.items ≡ length rows.now) }
+// Marks the rows at these ranks.
+fn marks(alloc: Global, order: &[u32], ranks: &[u32]) -> Result<Vec<bool>, AllocError>
+    requires order { All (λ row. row < length order.now) order.now }
+    requires ranks { All (λ rank. rank < length order.now) ranks.now }
+    ensures each { IfOk result (λ marks. length marks.items ≡ length order.now) }
+    ensures marked { IfOk result (λ marks. AreMarked marks.items (rows_at order.now ranks.now)) }
 {
-    let mut keep = vec![in alloc; false; rows.len()]?;
-    for place in order {
-        let Some(row) = rows.get(*place) else {
-            continue;
-        };
-        if theory.accept(alloc, row)? && *place < keep.len() {
-            keep[*place] = true;
-        }
+    let mut marks = vec![in alloc; false; order.len()]?;
+    for rank in ranks {
+        let row = order[*rank as usize];
+        marks[row as usize] = true;
     }
-    Ok(keep)
+    Ok(marks)
 }
 
 fn kept_count(keep: &[bool]) -> usize
     ensures { result ≡ kept_count keep.now }
 {
     keep.iter().filter(|kept| **kept).count()
+}
+
+// Chooses the rows to keep, where the documents are coherent without them.
+fn chosen(
+    alloc: Global,
+    names: &NameTable,
+    base: Vec<PlainAxiom>,
+    table: &TableText,
+) -> Result<Diagnosis, AllocError>
+    requires names { All (NamesBelow (length names.now.names)) base.items }
+    requires coherent { AreCoherent (length names.now.names) base.items }
+    ensures each { IfOk result (λ d. length d.keep.items ≡ length table.now.rows) }
+    ensures chosen { IfOk result (λ d. IsChosen (confidences_of table.now.rows) d.keep.items) }
+    ensures kept { IfOk result (λ d. d.kept ≡ kept_count d.keep.items) }
+{
+    let order = ranking(alloc, table.rows.as_slice())?;
+    let rows = ranked_rows(alloc, names, table, order.as_slice())?;
+    let inert = rows.iter().filter(|row| **row == PlainRow::Inert).count();
+    let classes = names.len();
+    let case = Case {
+        classes,
+        base,
+        rows,
+    };
+    let ranks = choose(alloc, &case, order.len() as u32)?;
+    let keep = marks(alloc, order.as_slice(), ranks.as_slice())?;
+    let kept = kept_count(keep.as_slice());
+    Ok(Diagnosis { keep, kept, inert })
 }
 
 /// Chooses the rows to keep, or finds that the documents are incoherent without them.
@@ -116,20 +161,16 @@ pub fn diagnose(
 ) -> Result<Diagnosis, Status>
     requires { AreOfForm left.now right.now table.now }
     ensures each { IfOk result (λ d. length d.keep.items ≡ length table.now.rows) }
+    ensures chosen { IfOk result (λ d. IsChosen (confidences_of table.now.rows) d.keep.items) }
     ensures kept { IfOk result (λ d. d.kept ≡ kept_count d.keep.items) }
     ensures err { IfErr result IsDiagnosisStop }
 {
     let mut names = NameTable::new(alloc, u32::MAX);
     let left = plain_axioms(alloc, &mut names, left)?;
     let right = plain_axioms(alloc, &mut names, right)?;
-    let mut theory = match coherent_theory(alloc, &names, left.as_slice(), right.as_slice()) {
-        Ok(theory) => theory,
+    let base = match coherent_axioms(alloc, &names, left, right.as_slice()) {
+        Ok(base) => base,
         Err(status) => return Err(status),
     };
-    let rows = plain_rows(alloc, &names, table)?;
-    let order = ranking(alloc, table.rows.as_slice())?;
-    let keep = choose(alloc, &mut theory, order.as_slice(), rows.as_slice())?;
-    let kept = kept_count(keep.as_slice());
-    let inert = rows.iter().filter(|row| **row == PlainRow::Inert).count();
-    Ok(Diagnosis { keep, kept, inert })
+    Ok(chosen(alloc, &names, base, table)?)
 }

@@ -13,7 +13,6 @@ mod report;
 mod run;
 mod status;
 mod tables;
-mod theory;
 mod words;
 
 pub use first_form::{AxiomText, Curie, DocumentText, Predicate, RowText, TableText};

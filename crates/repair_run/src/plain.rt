@@ -1,29 +1,13 @@
 //! Documents and rows over numbered class names.
-ghost use Rattle.std.specs.Prelude.{◌≡◌, ◌++◌, IfOk, IsTrue, IsUtf8, All};
+ghost use Rattle.std.specs.Prelude.{◌≡◌, ◌<◌, ◌≤◌, ◌++◌, length, IfOk, IfSome, IsTrue, IsUtf8, All};
+ghost use Rattle.plain_logic.specs.Plain.{NamesBelow, RowBelow};
 ghost use Rattle.repair_run.specs.FirstForm.{is_name, is_iri, IsAxiomText};
 
 use crate::first_form::{AxiomText, Curie, DocumentText, Predicate, RowText, TableText};
 use el_logic::Side;
+use plain_logic::{PlainAxiom, PlainRow};
 use std::alloc::{AllocError, Global};
 use text_names::NameTable;
-
-/// An axiom between two class names.
-#[derive(Clone, Copy, Debug, PartialEq, Eq)]
-pub enum PlainAxiom {
-    SubClass(u32, u32),
-    Disjoint(u32, u32),
-}
-
-/// What a row says.
-#[derive(Clone, Copy, Debug, PartialEq, Eq)]
-pub enum PlainRow {
-    /// No axiom: its subject or its object is no class name of the documents.
-    Inert,
-    /// The first is a subclass of the second.
-    Below(u32, u32),
-    /// Each is a subclass of the other.
-    Equal(u32, u32),
-}
 
 // The IRI that a short name stands for.
 fn full_name(alloc: Global, iri: &[u8], name: &[u8]) -> Result<Vec<u8>, AllocError>
@@ -38,9 +22,41 @@ fn full_name(alloc: Global, iri: &[u8], name: &[u8]) -> Result<Vec<u8>, AllocErr
 fn number(alloc: Global, names: &mut NameTable, iri: &[u8], name: &[u8]) -> Result<u32, AllocError>
     requires iri { IsTrue (is_iri iri.now) }
     requires name { IsTrue (is_name name.now) }
+    ensures below { IfOk result (λ number. number < length names.new.names) }
+    ensures grown { length names.old.names ≤ length names.new.names }
 {
     let full = full_name(alloc, iri, name)?;
     names.number(full.as_slice()).map_err(|_| AllocError)
+}
+
+// The axiom that an axiom text stands for; a declaration numbers its class and says no more.
+fn plain_axiom(
+    alloc: Global,
+    names: &mut NameTable,
+    iri: &[u8],
+    axiom: &AxiomText,
+) -> Result<Option<PlainAxiom>, AllocError>
+    requires iri { IsTrue (is_iri iri.now) }
+    requires axiom { IsAxiomText axiom.now }
+    ensures below { IfOk result (λ found. IfSome found (NamesBelow (length names.new.names))) }
+    ensures grown { length names.old.names ≤ length names.new.names }
+{
+    match axiom {
+        AxiomText::SubClass(lower, upper) => {
+            let lower = number(alloc, names, iri, lower.as_slice())?;
+            let upper = number(alloc, names, iri, upper.as_slice())?;
+            Ok(Some(PlainAxiom::SubClass(lower, upper)))
+        }
+        AxiomText::Disjoint(one, other) => {
+            let one = number(alloc, names, iri, one.as_slice())?;
+            let other = number(alloc, names, iri, other.as_slice())?;
+            Ok(Some(PlainAxiom::Disjoint(one, other)))
+        }
+        AxiomText::Declared(name) => {
+            number(alloc, names, iri, name.as_slice())?;
+            Ok(None)
+        }
+    }
 }
 
 /// The axioms of a document. Its class names get their numbers in order of first occurrence.
@@ -51,24 +67,14 @@ pub fn plain_axioms(
 ) -> Result<Vec<PlainAxiom>, AllocError>
     requires iri { IsTrue (is_iri document.now.iri) }
     requires axioms { All IsAxiomText document.now.axioms }
+    ensures below { IfOk result (λ axioms. All (NamesBelow (length names.new.names)) axioms.items) }
+    ensures grown { length names.old.names ≤ length names.new.names }
 {
     let iri = document.iri.as_slice();
     let mut axioms = Vec::new(alloc);
-    for axiom in document.axioms.as_slice() {
-        match axiom {
-            AxiomText::SubClass(lower, upper) => {
-                let lower = number(alloc, names, iri, lower.as_slice())?;
-                let upper = number(alloc, names, iri, upper.as_slice())?;
-                axioms.push(PlainAxiom::SubClass(lower, upper))?;
-            }
-            AxiomText::Disjoint(one, other) => {
-                let one = number(alloc, names, iri, one.as_slice())?;
-                let other = number(alloc, names, iri, other.as_slice())?;
-                axioms.push(PlainAxiom::Disjoint(one, other))?;
-            }
-            AxiomText::Declared(name) => {
-                number(alloc, names, iri, name.as_slice())?;
-            }
+    for text in document.axioms.as_slice() {
+        if let Some(axiom) = plain_axiom(alloc, names, iri, text)? {
+            axioms.push(axiom)?;
         }
     }
     Ok(axioms)
@@ -80,7 +86,9 @@ fn class_of(
     names: &NameTable,
     table: &TableText,
     curie: &Curie,
-) -> Result<Option<u32>, AllocError> {
+) -> Result<Option<u32>, AllocError>
+    ensures { IfOk result (λ found. IfSome found (λ class. class < length names.now.names)) }
+{
     let iri = match curie.side {
         Side::Left => table.left_iri.as_slice(),
         Side::Right => table.right_iri.as_slice(),
@@ -96,7 +104,9 @@ pub fn plain_row(
     names: &NameTable,
     table: &TableText,
     row: &RowText,
-) -> Result<PlainRow, AllocError> {
+) -> Result<PlainRow, AllocError>
+    ensures { IfOk result (RowBelow (length names.now.names)) }
+{
     let Some(subject) = class_of(alloc, names, table, &row.subject)? else {
         return Ok(PlainRow::Inert);
     };

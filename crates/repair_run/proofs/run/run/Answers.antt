@@ -14,7 +14,7 @@ returns-in-Ok-write_out-clause-done g c =
     let files = g.F.Folder.files in
     let text = c.as_slice-2.ensures.value ∙ c.in_ok-text.ensures ∙ ap (λ (k : List Bool). repaired_text l.table k) c.as_slice.ensures.value in
     let line = c.as_bytes.ensures.value ∙ c.in_ok-line.ensures ∙ ap (λ (n : ℕ). summary_text n c.in-Ok.found.kept c.in-Ok.found.inert) c.len.ensures ∙ ap (λ (n : ℕ). summary_text (length l.table.rows) n c.in-Ok.found.inert) c.in-Ok.ensures.kept in
-    done (files c.args.folder.now) n l.left l.right l.table c.in_ok-loaded.ensures.ok keep c.in-Ok.found.inert c.in-Ok.ensures.each c.as_slice-2.result.now c.as_bytes.result.now text line
+    done (files c.args.folder.now) n l.left l.right l.table c.in_ok-loaded.ensures.ok keep c.in-Ok.found.inert c.in-Ok.ensures.each c.in-Ok.ensures.chosen c.as_slice-2.result.now c.as_bytes.result.now text line
     (files c.write_out.new.folder) (g.S.Sink.got c.args.out.now) (g.S.Sink.got c.write_out.new.out)
     (subst (λ (o : Option Files). IfSome o (λ f. files c.write_out.new.folder ≡ Some (with_file f n.out c.as_slice-2.result.now))) c.in_ok-loaded.ensures.files c.in-Ok-write_out.ensures.files)
     c.in-Ok-write_out.ensures.got
@@ -28,7 +28,7 @@ returns-clause-files g c =
     let writes = g.F.Folder.write_faults in
     let text = c.as_slice-2.ensures.value ∙ c.in_ok-text.ensures ∙ ap (λ (k : List Bool). repaired_text l.table k) c.as_slice.ensures.value in
     let line = c.as_bytes.ensures.value ∙ c.in_ok-line.ensures ∙ ap (λ (n : ℕ). summary_text n c.in-Ok.found.kept c.in-Ok.found.inert) c.len.ensures ∙ ap (λ (n : ℕ). summary_text (length l.table.rows) n c.in-Ok.found.inert) c.in-Ok.ensures.kept in
-    write_files (files c.args.folder.now) n l.left l.right l.table c.in_ok-loaded.ensures.ok keep c.in-Ok.found.inert c.in-Ok.ensures.each c.as_slice-2.result.now c.as_bytes.result.now text line
+    write_files (files c.args.folder.now) n l.left l.right l.table c.in_ok-loaded.ensures.ok keep c.in-Ok.found.inert c.in-Ok.ensures.each c.in-Ok.ensures.chosen c.as_slice-2.result.now c.as_bytes.result.now text line
     (files c.write_out.new.folder) (writes c.load.new.folder n.out) (writes c.write_out.new.folder n.out) (g.S.Sink.got c.args.out.now) (g.S.Sink.got c.write_out.new.out) (g.S.Sink.faults c.args.out.now) (g.S.Sink.faults c.write_out.new.out)
     (writes c.args.folder.now n.out) (writes c.write_out.new.folder n.out) c.in-Err-write_out.status
     (subst (λ (o : Option Files). IsWriteStop o (files c.write_out.new.folder) (writes c.load.new.folder n.out) (writes c.write_out.new.folder n.out) (g.S.Sink.got c.args.out.now) (g.S.Sink.got c.write_out.new.out) (g.S.Sink.faults c.args.out.now) (g.S.Sink.faults c.write_out.new.out) n.out c.as_slice-2.result.now c.as_bytes.result.now c.in-Err-write_out.status)
@@ -43,7 +43,7 @@ returns-clause-quiet g c =
     let writes = g.F.Folder.write_faults in
     let text = c.as_slice-2.ensures.value ∙ c.in_ok-text.ensures ∙ ap (λ (k : List Bool). repaired_text l.table k) c.as_slice.ensures.value in
     let line = c.as_bytes.ensures.value ∙ c.in_ok-line.ensures ∙ ap (λ (n : ℕ). summary_text n c.in-Ok.found.kept c.in-Ok.found.inert) c.len.ensures ∙ ap (λ (n : ℕ). summary_text (length l.table.rows) n c.in-Ok.found.inert) c.in-Ok.ensures.kept in
-    write_quiet (files c.args.folder.now) n l.left l.right l.table c.in_ok-loaded.ensures.ok keep c.in-Ok.found.inert c.in-Ok.ensures.each c.as_slice-2.result.now c.as_bytes.result.now text line
+    write_quiet (files c.args.folder.now) n l.left l.right l.table c.in_ok-loaded.ensures.ok keep c.in-Ok.found.inert c.in-Ok.ensures.each c.in-Ok.ensures.chosen c.as_slice-2.result.now c.as_bytes.result.now text line
     (files c.write_out.new.folder) (writes c.load.new.folder n.out) (writes c.write_out.new.folder n.out) (g.S.Sink.got c.args.out.now) (g.S.Sink.got c.write_out.new.out) (g.S.Sink.faults c.args.out.now) (g.S.Sink.faults c.write_out.new.out)
     c.in-Err-write_out.status
     (subst (λ (o : Option Files). IsWriteStop o (files c.write_out.new.folder) (writes c.load.new.folder n.out) (writes c.write_out.new.folder n.out) (g.S.Sink.got c.args.out.now) (g.S.Sink.got c.write_out.new.out) (g.S.Sink.faults c.args.out.now) (g.S.Sink.faults c.write_out.new.out) n.out c.as_slice-2.result.now c.as_bytes.result.now c.in-Err-write_out.status)
