@@ -43,10 +43,7 @@ impl CoherenceTest for Case {
     ghost belongs = { λ case state. HasTaken case.classes case.base.items case.rows.items state.theory state.ranks.items };
 
     fn begin(&self, alloc: Global) -> Result<Taken, AllocError> {
-        let mut theory = Theory::new(alloc, self.classes)?;
-        for axiom in &self.base {
-            theory.put(axiom)?;
-        }
+        let theory = Theory::of(alloc, self.classes, self.base.as_slice())?;
         let ranks = Vec::new(alloc);
         Ok(Taken { theory, ranks })
     }

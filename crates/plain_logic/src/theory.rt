@@ -185,6 +185,20 @@ impl Theory {
         }
     }
 
+    /// A theory of these axioms.
+    pub fn of(alloc: Global, classes: u32, axioms: &[PlainAxiom]) -> Result<Self, AllocError>
+        requires names { All (NamesBelow classes) axioms.now }
+        ensures classes { IfOk result (λ t. classes_of t ≡ classes) }
+        ensures sized { IfOk result IsSized }
+        ensures axioms { IfOk result (IsTheory axioms.now) }
+    {
+        let mut theory = Theory::new(alloc, classes)?;
+        for axiom in axioms {
+            theory.put(axiom)?;
+        }
+        Ok(theory)
+    }
+
     // Puts each class below the other, unless a class would be empty then; whether it did.
     fn accept_equal(&mut self, alloc: Global, one: u32, other: u32) -> Result<bool, AllocError>
         requires sized { IsSized self.old }
