@@ -1,11 +1,15 @@
 -- Names within the classes, and marks of rows.
-use Rattle.std.proofs.Common.{◌≡◌, ◌≢◌, ◌⊎◌, ℕ, ◌<◌, ◌≤◌, ◌&&◌, Bool, true, false, nat_lt, if◌then◌else◌, List, [], ◌∷◌, ◌++◌, length, map, take, get_or, set, slice_index, Option, Some, Result, OnOk, OnErr, refl, sym, ◌∙◌, ap, subst, IsTrue, Contains, All, ⊎_elim, inl, inr, arith}
+use Rattle.std.proofs.Common.{◌≡◌, ◌≢◌, ◌⊎◌, ◌↔◌, ℕ, ◌+◌, ◌<◌, ◌≤◌, ◌&&◌, Bool, true, false, nat_lt, if◌then◌else◌, List, [], ◌∷◌, ◌++◌, length, map, take, get_or, set, slice_index, Option, Some, Result, OnOk, OnErr, None, MatchOption, bytes_eq, refl, sym, ◌∙◌, ap, subst, IsTrue, Contains, All, ⊎_elim, inl, inr, arith}
 use Rattle.std.specs.List.{list_all, range_with_len}
 use Rattle.std.proofs.lemmas.Bool.{cases_eq}
 use Rattle.std.proofs.lemmas.Bool.Decides.{nat_tests}
-use Rattle.std.proofs.lemmas.List.{get_or-set_same, get_or-set_other, get_or-replicate, length-append}
+use Rattle.std.proofs.lemmas.List.Sorted.{All-permutation, length_permutation}
+use Rattle.std.proofs.lemmas.List.FromFn.{length-range_with_len, get_or-range_with_len}
+use Rattle.std.proofs.lemmas.List.{map_more, get_or-set_same, get_or-set_other, get_or-replicate, length-append}
 use Rattle.std.proofs.lemmas.List.Quantifiers.{position-Some}
-use Rattle.std.proofs.lemmas.List.Elements.{All-nil, All-cons, All-head, All-tail, All-append, Contains-append_left, Contains-push, Contains-push_cases}
+use Rattle.std.proofs.lemmas.List.Elements.{All-nil, All-cons, All-head, All-tail, All-push, All-weaker, All-contains_itself, All-from_get_or, Contains-append_left, Contains-push, Contains-push_cases}
+use Rattle.conflict_logic.specs.Order.{IsRanking}
+use Rattle.conflict_logic.specs.Repair.{IsRepair}
 use Rattle.text_names.specs.Names.{number_of, with_name, is_held}
 use Rattle.plain_logic.specs.declared.axioms.PlainAxiom.{PlainAxiom}
 use Rattle.plain_logic.specs.declared.axioms.PlainAxiom.TheVariants.{SubClass, Disjoint}
@@ -32,8 +36,11 @@ names_stay n m (SubClass a b) le h = (omega (arith, h.0), omega (arith, h.1))
 names_stay n m (Disjoint a b) le h = (omega (arith, h.0), omega (arith, h.1))
 
 pub all_stay : (n m : ℕ) (ps : List PlainAxiom) → n ≤ m → All (NamesBelow n) ps → All (NamesBelow m) ps
-all_stay n m [] le h = All-nil
-all_stay n m (p ∷ ps) le h = All-cons (names_stay n m p le (All-head h)) (all_stay n m ps le (All-tail h))
+all_stay n m [] le h = All-nil (NamesBelow m)
+all_stay n m (p ∷ ps) le h = All-cons (NamesBelow m) p ps (names_stay n m p le (All-head (NamesBelow n) p ps h)) (all_stay n m ps le (All-tail (NamesBelow n) p ps h))
+
+pub all_stay_push : (n m : ℕ) (ps : List PlainAxiom) (p : PlainAxiom) → n ≤ m → All (NamesBelow n) ps → NamesBelow m p → All (NamesBelow m) (ps ++ p ∷ [])
+all_stay_push n m ps p le h k = All-push (NamesBelow m) ps p (all_stay n m ps le h) k
 
 -- the same as tests
 pass : (a n : ℕ) → a < n → nat_lt a n ≡ true
@@ -48,11 +55,11 @@ both_pass a b e f = cc
 
 pub all_names_test : (n : ℕ) (ps : List PlainAxiom) → All (NamesBelow n) ps → list_all (names_below n) ps ≡ true
 all_names_test n [] h = refl
-all_names_test n (p ∷ ps) h = both_pass (names_below n p) (list_all (names_below n) ps) (names_test n p (All-head h)) (all_names_test n ps (All-tail h))
+all_names_test n (p ∷ ps) h = both_pass (names_below n p) (list_all (names_below n) ps) (names_test n p (All-head (NamesBelow n) p ps h)) (all_names_test n ps (All-tail (NamesBelow n) p ps h))
 
 pub all_rows_test : (n : ℕ) (rows : List PlainRow) → All (RowBelow n) rows → list_all (row_below n) rows ≡ true
 all_rows_test n [] h = refl
-all_rows_test n (row ∷ rows) h = both_pass (row_below n row) (list_all (row_below n) rows) (all_names_test n (axioms_of_row row) (All-head h)) (all_rows_test n rows (All-tail h))
+all_rows_test n (row ∷ rows) h = both_pass (row_below n row) (list_all (row_below n) rows) (all_names_test n (axioms_of_row row) (All-head (RowBelow n) row rows h)) (all_rows_test n rows (All-tail (RowBelow n) row rows h))
 
 -- one more row is marked
 pub marked_more : (marks : List Bool) (rows : List ℕ) (row : ℕ) → row < length marks → AreMarked marks rows → AreMarked (set marks row true) (rows ++ row ∷ [])
@@ -67,3 +74,29 @@ marked_more marks rows row l h other =
       λ in_rows. get_or-set_other marks row other true false apart ∙ (h other).1 (⊎_elim (λ old. old) (λ (e : row ≡ other). absurd (apart (sym e))) (Contains-push_cases rows row other in_rows)),
     ))
     (cases_eq other row)
+
+-- nothing was found
+pub none_found : {X : Type 0} (found : Option X) (A : Type 0) (B : X → Type 0) → found ≡ None → MatchOption found A B → A
+none_found {X = X} found A B e h = subst (λ (o : Option X). MatchOption o A B) e h
+
+-- one more rank
+pub rows_at_more : (order ranks : List ℕ) (i : ℕ) → i < length ranks → rows_at order (take (i + 1) ranks) ≡ rows_at order (take i ranks) ++ slice_index order (get_or ranks i 0) ∷ []
+rows_at_more order ranks i l = map_more (slice_index order) ranks i 0 l
+
+-- a ranking lists as many rows as there are, and no other
+module _ (confidences order : List ℕ) (ranking : IsRanking confidences order) where
+  pub ranking_length : length order ≡ length confidences
+  ranking_length = length_permutation (range_with_len 0 (length confidences)) order ranking.each_once ∙ length-range_with_len 0 (length confidences)
+
+  pub ranking_below : All (λ row. row < length confidences) order
+  ranking_below = All-permutation (λ row. row < length confidences) (range_with_len 0 (length confidences)) order ranking.each_once
+      (All-from_get_or (λ row. row < length confidences) (range_with_len 0 (length confidences)) 0
+      (λ i l. let within : i < length confidences = omega (arith, l, length-range_with_len 0 (length confidences)) in omega (arith, within, get_or-range_with_len 0 (length confidences) i 0 within)))
+
+  pub ranking_within : All (λ row. row < length order) order
+  ranking_within = subst (λ n. All (λ row. row < n) order) (sym ranking_length) ranking_below
+
+-- the ranks of a repair are ranks
+pub repair_within : (incoherent : List ℕ → Type 0) (count n : ℕ) (ranks : List ℕ) → IsRepair incoherent count ranks → n ≡ count → All (λ rank. rank < n) ranks
+repair_within incoherent count n ranks repair e =
+    All-weaker (Contains ranks) (λ rank. rank < n) (λ rank h. subst (λ m. rank < m) (sym e) (repair.below rank h)) ranks (All-contains_itself ranks)

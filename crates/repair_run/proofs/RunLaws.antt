@@ -1,6 +1,6 @@
 -- How a run ends, clause by clause.
-use Rattle.std.proofs.Common.{◌≡◌, ◌⊎◌, ℕ, Bool, List, ◌++◌, length, take, Option, Some, None, IfSome, inl, inr, refl, sym, ◌∙◌, ap, subst, ⊎_elim}
-use Rattle.io_edge.specs.Outside.{Files, with_file}
+use Rattle.std.proofs.Common.{◌≡◌, ◌⊎◌, ℕ, ◌≤◌, Bool, List, ◌++◌, length, take, Option, Some, None, IfSome, inl, inr, refl, sym, ◌∙◌, ap, subst, ⊎_elim, arith}
+use Rattle.io_edge.specs.Outside.{Files, Rose, with_file}
 use Rattle.io_edge.specs.declared.outside.Role.{Role}
 use Rattle.io_edge.specs.declared.outside.Target.TheVariants as Target
 use Rattle.repair_run.specs.declared.first_form.DocumentText.{DocumentText}
@@ -41,6 +41,10 @@ line_whole (Some got) got_new puts_old puts_new (Status.WriteFault Target.Eviden
 line_whole (Some got) got_new puts_old puts_new (Status.WriteFault Target.Output) h = tt
 line_whole (Some got) got_new puts_old puts_new Status.OutOfMemory h = (20, h)
 line_whole (Some got) got_new puts_old puts_new (Status.Unbuilt file) h = inl h
+
+-- faults that are counted later
+pub rose_later : (first before now : ℕ) → first ≤ before → Rose before now → Rose first now
+rose_later first before now le h = omega (arith, le, h)
 
 -- what was read and what is written, where the files are told
 module _ (o : Option Files) (names : FileNames) (left right : DocumentText) (table : TableText) (loaded : IsLoaded o names left right table) where
@@ -91,6 +95,17 @@ module _ (o : Option Files) (names : FileNames) (left right : DocumentText) (tab
       write_files w v (Status.Incoherent part class) h = absurd h
       write_files w v (Status.ReadFault file) h = absurd h
       write_files w v (Status.Unbuilt file) h = absurd h
+
+      pub write_stop : (rd rd' w w' : List ℕ → ℕ) → w names.out ≤ writes_old → w' names.out ≡ writes_new → (s : Status) → Stops s → IsStop o rd rd' w w' p q names s
+      write_stop rd rd' w w' le e (Status.WriteFault Target.Out) h = (subst (Rose (w names.out)) (sym e) (rose_later (w names.out) writes_old writes_new le h.0), told o _ texts)
+      write_stop rd rd' w w' le e (Status.WriteFault Target.Output) h = (h.0, told o _ texts)
+      write_stop rd rd' w w' le e (Status.WriteFault Target.Evidence) h = absurd h
+      write_stop rd rd' w w' le e Status.OutOfMemory h = tt
+      write_stop rd rd' w w' le e Status.Done h = absurd h
+      write_stop rd rd' w w' le e Status.Words h = absurd h
+      write_stop rd rd' w w' le e (Status.Incoherent part class) h = absurd h
+      write_stop rd rd' w w' le e (Status.ReadFault file) h = absurd h
+      write_stop rd rd' w w' le e (Status.Unbuilt file) h = absurd h
 
       pub write_quiet : (s : Status) → Stops s → IsQuiet o got_old got_new p q names s
       write_quiet (Status.WriteFault Target.Out) h = (h.2, h.3)

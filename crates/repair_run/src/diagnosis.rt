@@ -1,5 +1,5 @@
 //! The rows to keep.
-ghost use Rattle.std.specs.Prelude.{◌≡◌, ◌<◌, ◌≤◌, length, All, IfOk, IfErr, OnOk};
+ghost use Rattle.std.specs.Prelude.{◌≡◌, ◌<◌, ◌^◌, length, All, IfOk, IfErr, OnOk};
 ghost use Rattle.conflict_logic.specs.Order.{IsRanking};
 ghost use Rattle.plain_logic.specs.Plain.{NamesBelow, RowBelow};
 ghost use Rattle.plain_logic.specs.Theory.{AreCoherent};
@@ -33,15 +33,23 @@ fn confidences(alloc: Global, rows: &[RowText]) -> Result<Vec<u128>, AllocError>
     rows.iter().map(|row| row.tenths as u128).collect(alloc)
 }
 
-// The rows in the order of their ranks. A table of so many rows that their numbers need more than 32 bits is no file
-// of the size that is read.
-fn ranking(alloc: Global, rows: &[RowText]) -> Result<Vec<u32>, AllocError>
-    ensures { IfOk result (IsRanking (confidences_of rows.now)) }
+// How many rows there are. A table whose rows need numbers of more than 32 bits is no file of the size that is read.
+fn row_count(rows: &[RowText]) -> Result<u32, AllocError>
+    ensures { IfOk result (λ count. count ≡ length rows.now) }
 {
-    let confidences = confidences(alloc, rows)?;
-    if confidences.len() > u32::MAX as usize {
+    let count = rows.len();
+    if count > u32::MAX as usize {
         return Err(AllocError);
     }
+    Ok(count as u32)
+}
+
+// The rows in the order of their ranks.
+fn ranking(alloc: Global, rows: &[RowText]) -> Result<Vec<u32>, AllocError>
+    requires { length rows.now < 2 ^ 32 }
+    ensures { IfOk result (λ order. IsRanking (confidences_of rows.now) order.items) }
+{
+    let confidences = confidences(alloc, rows)?;
     rank(alloc, confidences.as_slice())
 }
 
@@ -137,16 +145,14 @@ fn chosen(
     ensures chosen { IfOk result (λ d. IsChosen (confidences_of table.now.rows) d.keep.items) }
     ensures kept { IfOk result (λ d. d.kept ≡ kept_count d.keep.items) }
 {
-    let order = ranking(alloc, table.rows.as_slice())?;
+    let texts = table.rows.as_slice();
+    let count = row_count(texts)?;
+    let order = ranking(alloc, texts)?;
     let rows = ranked_rows(alloc, names, table, order.as_slice())?;
     let inert = rows.iter().filter(|row| **row == PlainRow::Inert).count();
     let classes = names.len();
-    let case = Case {
-        classes,
-        base,
-        rows,
-    };
-    let ranks = choose(alloc, &case, order.len() as u32)?;
+    let case = Case { classes, base, rows };
+    let ranks = choose(alloc, &case, count)?;
     let keep = marks(alloc, order.as_slice(), ranks.as_slice())?;
     let kept = kept_count(keep.as_slice());
     Ok(Diagnosis { keep, kept, inert })

@@ -34,14 +34,14 @@ fn plain_axiom(
     alloc: Global,
     names: &mut NameTable,
     iri: &[u8],
-    axiom: &AxiomText,
+    text: &AxiomText,
 ) -> Result<Option<PlainAxiom>, AllocError>
     requires iri { IsTrue (is_iri iri.now) }
-    requires axiom { IsAxiomText axiom.now }
+    requires text { IsAxiomText text.now }
     ensures below { IfOk result (λ found. IfSome found (NamesBelow (length names.new.names))) }
     ensures grown { length names.old.names ≤ length names.new.names }
 {
-    match axiom {
+    match text {
         AxiomText::SubClass(lower, upper) => {
             let lower = number(alloc, names, iri, lower.as_slice())?;
             let upper = number(alloc, names, iri, upper.as_slice())?;
