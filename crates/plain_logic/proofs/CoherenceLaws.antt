@@ -55,6 +55,7 @@ named (suc classes) first class h = ⊎_elim {C = (n : ℕ) × (n < suc classes)
   where
     plus_none : (a : ℕ) → a + 0 ≡ a
     plus_none a = omega arith
+
     plus_one : (a b : ℕ) → a + suc b ≡ (a + 1) + b
     plus_one a b = omega arith
 
@@ -118,8 +119,10 @@ module _ (axioms : List PlainAxiom) (t : Theory) (is : IsTheory axioms t) (sized
     where
       at : (k : ℕ) → k < classes_of t → slice_get (must_have (classes_of t)) (suc k) ≡ Some (Name k)
       at k l = numbered (classes_of t) 0 k l ∙ ap {B = Option Expr} (λ (n : ℕ). Some (Name n)) (omega arith)
+
       same_class : (a b : Expr) → Some a ≡ Some b → a ≡ b
       same_class a b e = cc
+
       none : (k : ℕ) (other : Expr) → k < suc class → slice_get (must_have (classes_of t)) k ≡ Some other → IsEmptyClass (classes_of t) 0 (map axiom_of axioms) other → ⊥
       none zero other l e empty = thing_has_member (classes_of t) axioms (subst (λ (x : Expr). IsEmptyClass (classes_of t) 0 (map axiom_of axioms) x) (sym (same_class Top other e)) empty)
       none (suc k) other l e empty =

@@ -65,6 +65,7 @@ fits marks = record {
     one : (b : Bool) → All (λ x. x < 1) (members b)
     one true = All-cons (λ x. x < 1) 0 [] (omega arith) (All-nil (λ x. x < 1))
     one false = All-nil (λ x. x < 1)
+
     all_members : (marks : List Bool) → All (All (λ x. x < 1)) (map members marks)
     all_members [] = All-nil (All (λ x. x < 1))
     all_members (m ∷ marks) = All-cons (All (λ x. x < 1)) (members m) (map members marks) (one m) (all_members marks)

@@ -47,6 +47,7 @@ put_below_is axioms old new lower upper sized l u is p = record {
   where
     within : upper < length old.lower.items
     within = subst (λ (n : ℕ). upper < n) (sym sized.same) u
+
     newest : (a b : ℕ) → a ≡ lower → b ≡ upper → Contains (axioms ++ SubClass lower upper ∷ []) (SubClass a b)
     newest a b e f = subst (λ (x : ℕ). Contains (axioms ++ SubClass lower upper ∷ []) (SubClass x b)) (sym e) (subst (λ (y : ℕ). Contains (axioms ++ SubClass lower upper ∷ []) (SubClass lower y)) (sym f) (Contains-push axioms (SubClass lower upper)))
 

@@ -51,15 +51,17 @@ row_is_below n (row ∷ rows) (suc rank) e = row_is_below n rows rank (both_true
 pub taken_more : (classes : ℕ) (base : List PlainAxiom) (rows : List PlainRow) (ranks : List ℕ) (rank : ℕ) (old new : Theory) → HasTaken classes base rows old ranks → AreCoherent (classes_of old) ((base ++ axioms_of_ranks rows ranks) ++ axioms_of_row (row_at rows rank)) → IsTheory ((base ++ axioms_of_ranks rows ranks) ++ axioms_of_row (row_at rows rank)) new → IsSized new → classes_of new ≡ classes_of old
     → HasTaken classes base rows new (ranks ++ rank ∷ []) × (AreIncoherentRanks classes base rows (ranks ++ rank ∷ []) → ⊥)
 taken_more classes base rows ranks rank old new h coherent is sized same =
-    let all = with_rank base rows ranks rank in
-    (record { sized = sized; same = same ∙ h.same; theory = subst (λ (x : List PlainAxiom). IsTheory x new) all is },
-    subst (λ (n : ℕ). AreCoherent n (base ++ axioms_of_ranks rows (ranks ++ rank ∷ []))) h.same (subst (AreCoherent (classes_of old)) all coherent))
+    let all = with_rank base rows ranks rank in (
+      record { sized = sized; same = same ∙ h.same; theory = subst (λ (x : List PlainAxiom). IsTheory x new) all is },
+      subst (λ (n : ℕ). AreCoherent n (base ++ axioms_of_ranks rows (ranks ++ rank ∷ []))) h.same (subst (AreCoherent (classes_of old)) all coherent),
+    )
 
 pub left_as_it_was : (classes : ℕ) (base : List PlainAxiom) (rows : List PlainRow) (ranks : List ℕ) (rank : ℕ) (old new : Theory) → HasTaken classes base rows old ranks → AreIncoherent (classes_of old) ((base ++ axioms_of_ranks rows ranks) ++ axioms_of_row (row_at rows rank)) → IsTheory (base ++ axioms_of_ranks rows ranks) new → IsSized new → classes_of new ≡ classes_of old
     → HasTaken classes base rows new ranks × AreIncoherentRanks classes base rows (ranks ++ rank ∷ [])
-left_as_it_was classes base rows ranks rank old new h broken is sized same =
-    (record { sized = sized; same = same ∙ h.same; theory = is },
-    subst (λ (n : ℕ). AreIncoherent n (base ++ axioms_of_ranks rows (ranks ++ rank ∷ []))) h.same (subst (AreIncoherent (classes_of old)) (with_rank base rows ranks rank) broken))
+left_as_it_was classes base rows ranks rank old new h broken is sized same = (
+  record { sized = sized; same = same ∙ h.same; theory = is },
+  subst (λ (n : ℕ). AreIncoherent n (base ++ axioms_of_ranks rows (ranks ++ rank ∷ []))) h.same (subst (AreIncoherent (classes_of old)) (with_rank base rows ranks rank) broken),
+)
 
 -- the documents alone
 pub taken_none : (classes : ℕ) (base : List PlainAxiom) (rows : List PlainRow) (t : Theory) → IsSized t → classes_of t ≡ classes → IsTheory base t → HasTaken classes base rows t []

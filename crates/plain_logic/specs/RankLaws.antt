@@ -43,4 +43,3 @@ ranks_closed classes base rows part whole within h =
 
 pub no_ranks : (classes : ℕ) (base : List PlainAxiom) (rows : List PlainRow) → AreCoherent classes base → AreIncoherentRanks classes base rows [] → ⊥
 no_ranks classes base rows coherent h = coherent (subst (AreIncoherent classes) (append-nil base) h)
-
