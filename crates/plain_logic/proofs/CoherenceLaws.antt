@@ -1,8 +1,7 @@
 -- Axioms are coherent exactly where no class is broken.
-use Rattle.std.proofs.Common.{◌≡◌, ◌⊎◌, ℕ, zero, suc, ◌+◌, ◌<◌, ◌≤◌, Bool, true, false, List, [], ◌∷◌, ◌++◌, length, get_or, map, Option, Some, None, slice_get, replicate, refl, sym, ◌∙◌, ap, subst, IsTrue, Contains, All, ⊎_elim, inl, inr, arith}
+use Rattle.std.proofs.Common.{◌≡◌, ℕ, zero, suc, ◌+◌, ◌<◌, Bool, List, [], ◌∷◌, length, get_or, map, Option, Some, slice_get, refl, sym, ◌∙◌, ap, subst, Contains, All, ⊎_elim, inl, arith}
 use Rattle.std.specs.List.{range_with_len}
 use Rattle.std.proofs.lemmas.Bool.{cases_lt}
-use Rattle.std.proofs.lemmas.List.{length-map}
 use Rattle.std.proofs.lemmas.List.Elements.{All-nil, All-cons, Contains-append_right}
 use Rattle.el_logic.specs.declared.types.Expr.{Expr}
 use Rattle.el_logic.specs.declared.types.Expr.TheVariants.{Top, Name}
@@ -11,7 +10,7 @@ use Rattle.plain_logic.specs.declared.axioms.PlainAxiom.{PlainAxiom}
 use Rattle.plain_logic.specs.declared.theory.Theory.{Theory}
 use Rattle.plain_logic.specs.Paths.{AreBounded, next_of}
 use Rattle.plain_logic.specs.Plain.{axiom_of, IsBroken, IsSomeBroken, AreUnbroken}
-use Rattle.plain_logic.specs.Reach.{is_marked, IsReach}
+use Rattle.plain_logic.specs.Reach.{IsReach}
 use Rattle.plain_logic.specs.Added.{marks_with, found_with_all}
 use Rattle.plain_logic.specs.Theory.{classes_of, IsTheory, IsSized, AreCoherent, AreIncoherent}
 use Rattle.plain_logic.proofs.FoundLaws.{IsSearched, searched_none, searched_more, searched_all, few}

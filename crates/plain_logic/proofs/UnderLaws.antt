@@ -1,13 +1,13 @@
 -- Classes under classes, by the searches of a theory.
-use Rattle.std.proofs.Common.{◌≡◌, ◌≢◌, ◌⊎◌, ℕ, ◌<◌, Bool, true, false, List, [], ◌∷◌, ◌++◌, length, refl, sym, ◌∙◌, ap, subst, IsTrue, Contains, All, ⊎_elim, inl, inr, arith}
-use Rattle.std.proofs.lemmas.List.Elements.{All-push, Contains-append_left, Contains-append_right, Contains-append_cases, Contains-push, Contains-push_cases}
+use Rattle.std.proofs.Common.{◌≡◌, ◌⊎◌, ℕ, ◌<◌, Bool, List, [], ◌∷◌, ◌++◌, refl, sym, subst, IsTrue, Contains, All, ⊎_elim, inl, inr, arith}
+use Rattle.std.proofs.lemmas.List.Elements.{All-push, Contains-append_left, Contains-push, Contains-push_cases}
 use Rattle.plain_logic.specs.declared.axioms.PlainAxiom.{PlainAxiom}
 use Rattle.plain_logic.specs.declared.axioms.PlainAxiom.TheVariants.{SubClass, Disjoint}
 use Rattle.plain_logic.specs.declared.theory.Theory.{Theory}
 use Rattle.plain_logic.specs.Paths.{IsPath, Leads, IsEdge, AreBounded}
 use Rattle.plain_logic.specs.Plain.{IsDirectlyBelow, IsUnder, IsBroken, IsSomeBroken, AreUnbroken}
-use Rattle.plain_logic.specs.Reach.{is_marked, IsFound, IsReach}
-use Rattle.plain_logic.specs.Crossing.{Crosses, IsCrossed}
+use Rattle.plain_logic.specs.Reach.{is_marked, IsReach}
+use Rattle.plain_logic.specs.Crossing.{IsCrossed}
 use Rattle.plain_logic.specs.Theory.{classes_of, IsTheory, IsSized}
 use Rattle.plain_logic.proofs.FoundLaws.{leads_on, all_by}
 

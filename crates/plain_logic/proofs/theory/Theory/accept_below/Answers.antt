@@ -1,4 +1,4 @@
-use Rattle.std.proofs.Common.{◌≡◌, ◌∷◌, [], ◌++◌, Bool, true, false}
+use Rattle.std.proofs.Common.{◌∷◌, [], ◌++◌}
 use Rattle.plain_logic.specs.declared.axioms.PlainAxiom.TheVariants.{SubClass}
 use Rattle.plain_logic.specs.Theory.{classes_of}
 use Rattle.plain_logic.proofs.CoherenceLaws.{coherent_unbroken}
