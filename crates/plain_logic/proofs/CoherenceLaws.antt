@@ -1,8 +1,7 @@
 -- Axioms are coherent exactly where no class is broken.
-use Rattle.std.proofs.Common.{◌≡◌, ◌⊎◌, ℕ, zero, suc, ◌+◌, ◌<◌, ◌≤◌, Bool, true, false, List, [], ◌∷◌, ◌++◌, length, get_or, map, Option, Some, None, slice_get, replicate, refl, sym, ◌∙◌, ap, subst, IsTrue, Contains, All, ⊎_elim, inl, inr, arith}
+use Rattle.std.proofs.Common.{◌≡◌, ℕ, zero, suc, ◌+◌, ◌<◌, Bool, List, [], ◌∷◌, length, get_or, map, Option, Some, slice_get, refl, sym, ◌∙◌, ap, subst, Contains, All, ⊎_elim, inl, arith}
 use Rattle.std.specs.List.{range_with_len}
 use Rattle.std.proofs.lemmas.Bool.{cases_lt}
-use Rattle.std.proofs.lemmas.List.{length-map}
 use Rattle.std.proofs.lemmas.List.Elements.{All-nil, All-cons, Contains-append_right}
 use Rattle.el_logic.specs.declared.types.Expr.{Expr}
 use Rattle.el_logic.specs.declared.types.Expr.TheVariants.{Top, Name}
@@ -11,7 +10,7 @@ use Rattle.plain_logic.specs.declared.axioms.PlainAxiom.{PlainAxiom}
 use Rattle.plain_logic.specs.declared.theory.Theory.{Theory}
 use Rattle.plain_logic.specs.Paths.{AreBounded, next_of}
 use Rattle.plain_logic.specs.Plain.{axiom_of, IsBroken, IsSomeBroken, AreUnbroken}
-use Rattle.plain_logic.specs.Reach.{is_marked, IsReach}
+use Rattle.plain_logic.specs.Reach.{IsReach}
 use Rattle.plain_logic.specs.Added.{marks_with, found_with_all}
 use Rattle.plain_logic.specs.Theory.{classes_of, IsTheory, IsSized, AreCoherent, AreIncoherent}
 use Rattle.plain_logic.proofs.FoundLaws.{IsSearched, searched_none, searched_more, searched_all, few}
@@ -55,6 +54,7 @@ named (suc classes) first class h = ⊎_elim {C = (n : ℕ) × (n < suc classes)
   where
     plus_none : (a : ℕ) → a + 0 ≡ a
     plus_none a = omega arith
+
     plus_one : (a b : ℕ) → a + suc b ≡ (a + 1) + b
     plus_one a b = omega arith
 
@@ -118,8 +118,10 @@ module _ (axioms : List PlainAxiom) (t : Theory) (is : IsTheory axioms t) (sized
     where
       at : (k : ℕ) → k < classes_of t → slice_get (must_have (classes_of t)) (suc k) ≡ Some (Name k)
       at k l = numbered (classes_of t) 0 k l ∙ ap {B = Option Expr} (λ (n : ℕ). Some (Name n)) (omega arith)
+
       same_class : (a b : Expr) → Some a ≡ Some b → a ≡ b
       same_class a b e = cc
+
       none : (k : ℕ) (other : Expr) → k < suc class → slice_get (must_have (classes_of t)) k ≡ Some other → IsEmptyClass (classes_of t) 0 (map axiom_of axioms) other → ⊥
       none zero other l e empty = thing_has_member (classes_of t) axioms (subst (λ (x : Expr). IsEmptyClass (classes_of t) 0 (map axiom_of axioms) x) (sym (same_class Top other e)) empty)
       none (suc k) other l e empty =

@@ -1,10 +1,8 @@
 -- Broken classes are empty, and an unbroken one has a member in a model of one element.
-use Rattle.std.proofs.Common.{◌≡◌, ◌⊎◌, ℕ, zero, suc, ◌+◌, ◌<◌, ◌≤◌, Bool, true, false, cond, List, [], ◌∷◌, ◌++◌, length, get_or, map, replicate, refl, sym, ◌∙◌, ap, subst, IsTrue, Contains, All, ⊎_elim, inl, inr, arith, true≢false}
-use Rattle.std.proofs.lemmas.Bool.{cases_lt}
-use Rattle.std.proofs.lemmas.List.{length-map, length-replicate, get_or-map}
-use Rattle.std.proofs.lemmas.List.Elements.{All-nil, All-cons, All-head, All-tail, Contains-append_left, Contains-append_right, Contains-append_cases, Contains-push, Contains-push_cases}
+use Rattle.std.proofs.Common.{◌≡◌, ℕ, zero, suc, ◌<◌, Bool, true, false, cond, List, [], ◌∷◌, length, map, replicate, refl, sym, ◌∙◌, ap, subst, IsTrue, Contains, All, ⊎_elim, arith, true≢false}
+use Rattle.std.proofs.lemmas.List.{length-map, length-replicate}
+use Rattle.std.proofs.lemmas.List.Elements.{All-nil, All-cons, All-head, Contains-push, Contains-push_cases}
 use Rattle.el_logic.specs.declared.types.Interp.{Interp}
-use Rattle.el_logic.specs.declared.types.Axiom.{Axiom}
 use Rattle.el_logic.specs.declared.types.Expr.{Expr}
 use Rattle.el_logic.specs.declared.types.Expr.TheVariants.{Top, Name}
 use Rattle.el_logic.specs.Meaning.{IsInterp, IsMember, Holds, members_of}
@@ -12,9 +10,9 @@ use Rattle.el_logic.specs.Incoherent.{IsModel, IsEmptyClass}
 use Rattle.plain_logic.specs.declared.axioms.PlainAxiom.{PlainAxiom}
 use Rattle.plain_logic.specs.declared.axioms.PlainAxiom.TheVariants.{SubClass, Disjoint}
 use Rattle.plain_logic.specs.HoldsLaws.{holds_of, all_mapped}
-use Rattle.plain_logic.specs.Paths.{IsPath, Leads, IsEdge, AreBounded}
-use Rattle.plain_logic.specs.Plain.{axiom_of, NamesBelow, IsDirectlyBelow, IsUnder, IsBroken}
-use Rattle.plain_logic.specs.Reach.{is_marked, IsReach}
+use Rattle.plain_logic.specs.Paths.{IsPath}
+use Rattle.plain_logic.specs.Plain.{axiom_of, IsDirectlyBelow, IsUnder, IsBroken}
+use Rattle.plain_logic.specs.Reach.{is_marked}
 
 -- following the axioms in any interpretation
 module _ (i : Interp) where
@@ -65,6 +63,7 @@ fits marks = record {
     one : (b : Bool) → All (λ x. x < 1) (members b)
     one true = All-cons (λ x. x < 1) 0 [] (omega arith) (All-nil (λ x. x < 1))
     one false = All-nil (λ x. x < 1)
+
     all_members : (marks : List Bool) → All (All (λ x. x < 1)) (map members marks)
     all_members [] = All-nil (All (λ x. x < 1))
     all_members (m ∷ marks) = All-cons (All (λ x. x < 1)) (members m) (map members marks) (one m) (all_members marks)

@@ -1,5 +1,5 @@
 -- A theory with one more axiom, and back.
-use Rattle.std.proofs.Common.{◌≡◌, ◌⊎◌, ℕ, ◌<◌, Bool, true, false, List, [], ◌∷◌, ◌++◌, length, set, map, refl, sym, ◌∙◌, ap, subst, Contains, All, ⊎_elim, inl, inr, MatchBool, MatchOption, Option, Some, None, append_assoc, arith}
+use Rattle.std.proofs.Common.{◌≡◌, ℕ, ◌<◌, Bool, true, false, List, [], ◌∷◌, ◌++◌, length, set, map, sym, ◌∙◌, ap, subst, Contains, All, ⊎_elim, MatchBool, append_assoc}
 use Rattle.std.proofs.lemmas.List.{length-set, set-set, set-get_or, get_or-set_same, map-append}
 use Rattle.std.proofs.lemmas.List.Elements.{All-nil, All-cons, All-head, All-tail, Contains-append_left, Contains-push, Contains-push_cases}
 use Rattle.el_logic.specs.declared.types.Axiom.{Axiom}
@@ -47,6 +47,7 @@ put_below_is axioms old new lower upper sized l u is p = record {
   where
     within : upper < length old.lower.items
     within = subst (λ (n : ℕ). upper < n) (sym sized.same) u
+
     newest : (a b : ℕ) → a ≡ lower → b ≡ upper → Contains (axioms ++ SubClass lower upper ∷ []) (SubClass a b)
     newest a b e f = subst (λ (x : ℕ). Contains (axioms ++ SubClass lower upper ∷ []) (SubClass x b)) (sym e) (subst (λ (y : ℕ). Contains (axioms ++ SubClass lower upper ∷ []) (SubClass lower y)) (sym f) (Contains-push axioms (SubClass lower upper)))
 

@@ -1,19 +1,16 @@
 -- One more rank, and names by their tests.
-use Rattle.std.proofs.Common.{◌≡◌, ◌⊎◌, ℕ, zero, suc, ◌<◌, ◌&&◌, Bool, true, false, nat_lt, List, [], ◌∷◌, ◌++◌, refl, sym, ◌∙◌, ap, subst, IsTrue, Contains, All, ⊎_elim, inl, inr, arith, append_assoc, true≢false}
+use Rattle.std.proofs.Common.{◌≡◌, ℕ, zero, suc, ◌<◌, ◌&&◌, Bool, true, false, nat_lt, List, [], ◌∷◌, ◌++◌, refl, sym, ◌∙◌, ap, subst, All, arith, append_assoc, true≢false}
 use Rattle.std.specs.List.{list_all}
 use Rattle.std.proofs.lemmas.Bool.Decides.{nat_tests}
 use Rattle.std.proofs.lemmas.List.{append-nil}
-use Rattle.std.proofs.lemmas.List.Elements.{All-nil, All-cons, Contains-append_left, Contains-append_right, Contains-append_cases}
-use Rattle.el_logic.specs.Meaning.{Holds}
-use Rattle.conflict_logic.specs.Sets.{IsPart, IsClosedUnderAdding}
+use Rattle.std.proofs.lemmas.List.Elements.{All-nil, All-cons}
 use Rattle.plain_logic.specs.declared.axioms.PlainAxiom.{PlainAxiom}
 use Rattle.plain_logic.specs.declared.axioms.PlainAxiom.TheVariants.{SubClass, Disjoint}
 use Rattle.plain_logic.specs.declared.axioms.PlainRow.{PlainRow}
-use Rattle.plain_logic.specs.Plain.{axiom_of, axioms_of_row, axioms_of_ranks, row_at, NamesBelow, names_below, row_below, RowBelow}
+use Rattle.plain_logic.specs.Plain.{axioms_of_row, axioms_of_ranks, row_at, NamesBelow, names_below, row_below, RowBelow}
 use Rattle.plain_logic.specs.declared.theory.Theory.{Theory}
 use Rattle.plain_logic.specs.Theory.{classes_of, IsSized, IsTheory, AnswersRow, AreCoherent, AreIncoherent}
 use Rattle.plain_logic.specs.Ranks.{AreIncoherentRanks, HasTaken}
-use Rattle.plain_logic.specs.HoldsLaws.{cons_cases, head_of, holds_of, all_mapped}
 
 -- one more rank
 pub ranks_push : (rows : List PlainRow) (ranks : List ℕ) (rank : ℕ) → axioms_of_ranks rows (ranks ++ rank ∷ []) ≡ axioms_of_ranks rows ranks ++ axioms_of_row (row_at rows rank)
@@ -51,15 +48,17 @@ row_is_below n (row ∷ rows) (suc rank) e = row_is_below n rows rank (both_true
 pub taken_more : (classes : ℕ) (base : List PlainAxiom) (rows : List PlainRow) (ranks : List ℕ) (rank : ℕ) (old new : Theory) → HasTaken classes base rows old ranks → AreCoherent (classes_of old) ((base ++ axioms_of_ranks rows ranks) ++ axioms_of_row (row_at rows rank)) → IsTheory ((base ++ axioms_of_ranks rows ranks) ++ axioms_of_row (row_at rows rank)) new → IsSized new → classes_of new ≡ classes_of old
     → HasTaken classes base rows new (ranks ++ rank ∷ []) × (AreIncoherentRanks classes base rows (ranks ++ rank ∷ []) → ⊥)
 taken_more classes base rows ranks rank old new h coherent is sized same =
-    let all = with_rank base rows ranks rank in
-    (record { sized = sized; same = same ∙ h.same; theory = subst (λ (x : List PlainAxiom). IsTheory x new) all is },
-    subst (λ (n : ℕ). AreCoherent n (base ++ axioms_of_ranks rows (ranks ++ rank ∷ []))) h.same (subst (AreCoherent (classes_of old)) all coherent))
+    let all = with_rank base rows ranks rank in (
+      record { sized = sized; same = same ∙ h.same; theory = subst (λ (x : List PlainAxiom). IsTheory x new) all is },
+      subst (λ (n : ℕ). AreCoherent n (base ++ axioms_of_ranks rows (ranks ++ rank ∷ []))) h.same (subst (AreCoherent (classes_of old)) all coherent),
+    )
 
 pub left_as_it_was : (classes : ℕ) (base : List PlainAxiom) (rows : List PlainRow) (ranks : List ℕ) (rank : ℕ) (old new : Theory) → HasTaken classes base rows old ranks → AreIncoherent (classes_of old) ((base ++ axioms_of_ranks rows ranks) ++ axioms_of_row (row_at rows rank)) → IsTheory (base ++ axioms_of_ranks rows ranks) new → IsSized new → classes_of new ≡ classes_of old
     → HasTaken classes base rows new ranks × AreIncoherentRanks classes base rows (ranks ++ rank ∷ [])
-left_as_it_was classes base rows ranks rank old new h broken is sized same =
-    (record { sized = sized; same = same ∙ h.same; theory = is },
-    subst (λ (n : ℕ). AreIncoherent n (base ++ axioms_of_ranks rows (ranks ++ rank ∷ []))) h.same (subst (AreIncoherent (classes_of old)) (with_rank base rows ranks rank) broken))
+left_as_it_was classes base rows ranks rank old new h broken is sized same = (
+  record { sized = sized; same = same ∙ h.same; theory = is },
+  subst (λ (n : ℕ). AreIncoherent n (base ++ axioms_of_ranks rows (ranks ++ rank ∷ []))) h.same (subst (AreIncoherent (classes_of old)) (with_rank base rows ranks rank) broken),
+)
 
 -- the documents alone
 pub taken_none : (classes : ℕ) (base : List PlainAxiom) (rows : List PlainRow) (t : Theory) → IsSized t → classes_of t ≡ classes → IsTheory base t → HasTaken classes base rows t []

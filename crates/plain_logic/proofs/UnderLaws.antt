@@ -1,13 +1,13 @@
 -- Classes under classes, by the searches of a theory.
-use Rattle.std.proofs.Common.{◌≡◌, ◌≢◌, ◌⊎◌, ℕ, ◌<◌, Bool, true, false, List, [], ◌∷◌, ◌++◌, length, refl, sym, ◌∙◌, ap, subst, IsTrue, Contains, All, ⊎_elim, inl, inr, arith}
-use Rattle.std.proofs.lemmas.List.Elements.{All-push, Contains-append_left, Contains-append_right, Contains-append_cases, Contains-push, Contains-push_cases}
+use Rattle.std.proofs.Common.{◌≡◌, ◌⊎◌, ℕ, ◌<◌, Bool, List, [], ◌∷◌, ◌++◌, refl, sym, subst, IsTrue, Contains, All, ⊎_elim, inl, inr, arith}
+use Rattle.std.proofs.lemmas.List.Elements.{All-push, Contains-append_left, Contains-push, Contains-push_cases}
 use Rattle.plain_logic.specs.declared.axioms.PlainAxiom.{PlainAxiom}
 use Rattle.plain_logic.specs.declared.axioms.PlainAxiom.TheVariants.{SubClass, Disjoint}
 use Rattle.plain_logic.specs.declared.theory.Theory.{Theory}
 use Rattle.plain_logic.specs.Paths.{IsPath, Leads, IsEdge, AreBounded}
 use Rattle.plain_logic.specs.Plain.{IsDirectlyBelow, IsUnder, IsBroken, IsSomeBroken, AreUnbroken}
-use Rattle.plain_logic.specs.Reach.{is_marked, IsFound, IsReach}
-use Rattle.plain_logic.specs.Crossing.{Crosses, IsCrossed}
+use Rattle.plain_logic.specs.Reach.{is_marked, IsReach}
+use Rattle.plain_logic.specs.Crossing.{IsCrossed}
 use Rattle.plain_logic.specs.Theory.{classes_of, IsTheory, IsSized}
 use Rattle.plain_logic.proofs.FoundLaws.{leads_on, all_by}
 
@@ -57,6 +57,7 @@ under_cases axioms lower upper from to (path, h) = cases path from h
   where
     same_class : (a b c d : ℕ) → SubClass a b ≡ SubClass c d → (a ≡ c) × (b ≡ d)
     same_class a b c d e = (cc, cc)
+
     cases : (path : List ℕ) (from : ℕ) → IsPath (IsDirectlyBelow (axioms ++ SubClass lower upper ∷ [])) from path to → IsUnder axioms from to ⊎ (IsUnder axioms from lower × IsUnder axioms upper to)
     cases [] from h = inl ([], h)
     cases (next ∷ path) from h = ⊎_elim
@@ -95,9 +96,13 @@ module _ (axioms : List PlainAxiom) (t : Theory) (is : IsTheory axioms t) where
     is_above n u = reach_all t.upper.items (class ∷ []) marks found r class n (Contains-push [] class) (is_up class n u)
 
     pub crossed_is_broken : IsCrossed marks marks t.disjoint.items → IsBroken axioms class
-    crossed_is_broken (one, other, held, c) =
-        (one, other, is.disjoint_stands one other held,
-        ⊎_elim (λ h. above one h.0) (λ h. above one h.1) c, ⊎_elim (λ h. above other h.1) (λ h. above other h.0) c)
+    crossed_is_broken (one, other, held, c) = (
+      one,
+      other,
+      is.disjoint_stands one other held,
+      ⊎_elim (λ h. above one h.0) (λ h. above one h.1) c,
+      ⊎_elim (λ h. above other h.1) (λ h. above other h.0) c,
+    )
 
     pub broken_is_crossed : IsBroken axioms class → IsCrossed marks marks t.disjoint.items
     broken_is_crossed (one, other, held, u, v) = (one, other, is.all_disjoint one other held, inl (is_above one u, is_above other v))
@@ -122,10 +127,12 @@ module _ (axioms : List PlainAxiom) (t : Theory) (is : IsTheory axioms t) where
         let up = under_more axioms (SubClass lower upper ∷ []) upper one (above upper marks found r one m) in
         let to = under_more axioms (SubClass lower upper ∷ []) from.0 other (up_is from.0 other from.2) in
         let start : (from.0 < classes_of t) × IsUnder More from.0 upper = ⊎_elim
-            (λ held. (subst (λ (k : ℕ). from.0 < k) sized.same (b.is_found.below from.0 held),
-            leads_join (IsDirectlyBelow More) from.0 lower upper (under_more axioms (SubClass lower upper ∷ []) from.0 lower (below_is from.0 held)) (upper ∷ [], (Contains-push axioms (SubClass lower upper), refl))))
-            (λ (same : upper ≡ from.0). (subst (λ (k : ℕ). k < classes_of t) same small, subst (λ (k : ℕ). IsUnder More k upper) same ([], refl)))
-            (Contains-push_cases low upper from.0 from.1) in
+        (λ held. (
+          subst (λ (k : ℕ). from.0 < k) sized.same (b.is_found.below from.0 held),
+          leads_join (IsDirectlyBelow More) from.0 lower upper (under_more axioms (SubClass lower upper ∷ []) from.0 lower (below_is from.0 held)) (upper ∷ [], (Contains-push axioms (SubClass lower upper), refl)),
+        ))
+        (λ (same : upper ≡ from.0). (subst (λ (k : ℕ). k < classes_of t) same small, subst (λ (k : ℕ). IsUnder More k upper) same ([], refl)))
+        (Contains-push_cases low upper from.0 from.1) in
         let reaches = leads_join (IsDirectlyBelow More) from.0 upper one start.1 up in
         ⊎_elim
         (λ h. (from.0, start.0, (one, other, Contains-append_left axioms (SubClass lower upper ∷ []) (Disjoint one other) h, reaches, to)))

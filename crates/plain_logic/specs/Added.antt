@@ -1,5 +1,5 @@
 -- One more number found.
-use Rattle.std.specs.Prelude.{◌≡◌, ℕ, Bool, true, false, List, [], ◌∷◌, ◌++◌, slice_set, if◌then◌else◌}
+use Rattle.std.specs.Prelude.{◌≡◌, ℕ, Bool, true, List, [], ◌∷◌, ◌++◌, slice_set, if◌then◌else◌}
 use Rattle.plain_logic.specs.declared.reach.Reached.{Reached}
 use Rattle.plain_logic.specs.Reach.{is_marked}
 

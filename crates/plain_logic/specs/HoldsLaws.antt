@@ -1,5 +1,5 @@
 -- What lists of axioms have in common, and what holds of each of them.
-use Rattle.std.proofs.Common.{◌≡◌, ◌⊎◌, ℕ, ◌<◌, List, [], ◌∷◌, ◌++◌, length, map, subst, Contains, All, ⊎_elim, inl, inr, arith}
+use Rattle.std.proofs.Common.{◌≡◌, ◌⊎◌, List, [], ◌∷◌, map, subst, Contains, All, ⊎_elim, inl, inr, arith}
 use Rattle.std.proofs.lemmas.List.Elements.{All-nil, All-cons, All-head, All-tail, Contains-append_left, Contains-append_right, Contains-append_cases, Contains-push, Contains-push_cases}
 use Rattle.el_logic.specs.declared.types.Interp.{Interp}
 use Rattle.el_logic.specs.declared.types.Axiom.{Axiom}

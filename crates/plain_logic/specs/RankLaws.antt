@@ -1,15 +1,12 @@
 -- Sets of ranks: more rows never make an incoherent set coherent.
-use Rattle.std.proofs.Common.{◌≡◌, ◌⊎◌, ℕ, ◌<◌, ◌&&◌, Bool, true, false, nat_lt, List, [], ◌∷◌, ◌++◌, refl, sym, ◌∙◌, ap, subst, IsTrue, Contains, All, ⊎_elim, inl, inr, arith, append_assoc, true≢false}
-use Rattle.std.specs.List.{list_all}
-use Rattle.std.proofs.lemmas.Bool.Decides.{nat_tests}
+use Rattle.std.proofs.Common.{◌≡◌, ℕ, List, [], ◌∷◌, ◌++◌, sym, subst, Contains, ⊎_elim, arith}
 use Rattle.std.proofs.lemmas.List.{append-nil}
-use Rattle.std.proofs.lemmas.List.Elements.{All-nil, All-cons, Contains-append_left, Contains-append_right, Contains-append_cases}
+use Rattle.std.proofs.lemmas.List.Elements.{Contains-append_left, Contains-append_right, Contains-append_cases}
 use Rattle.el_logic.specs.Meaning.{Holds}
-use Rattle.conflict_logic.specs.Sets.{IsPart, IsClosedUnderAdding}
+use Rattle.conflict_logic.specs.Sets.{IsClosedUnderAdding}
 use Rattle.plain_logic.specs.declared.axioms.PlainAxiom.{PlainAxiom}
-use Rattle.plain_logic.specs.declared.axioms.PlainAxiom.TheVariants.{SubClass, Disjoint}
 use Rattle.plain_logic.specs.declared.axioms.PlainRow.{PlainRow}
-use Rattle.plain_logic.specs.Plain.{axiom_of, axioms_of_row, axioms_of_ranks, row_at, NamesBelow, names_below, row_below, RowBelow}
+use Rattle.plain_logic.specs.Plain.{axioms_of_row, axioms_of_ranks, row_at}
 use Rattle.plain_logic.specs.Theory.{AreCoherent, AreIncoherent}
 use Rattle.plain_logic.specs.Ranks.{AreIncoherentRanks}
 use Rattle.plain_logic.specs.HoldsLaws.{cons_cases, head_of, holds_of, all_mapped}
@@ -43,4 +40,3 @@ ranks_closed classes base rows part whole within h =
 
 pub no_ranks : (classes : ℕ) (base : List PlainAxiom) (rows : List PlainRow) → AreCoherent classes base → AreIncoherentRanks classes base rows [] → ⊥
 no_ranks classes base rows coherent h = coherent (subst (AreIncoherent classes) (append-nil base) h)
-

@@ -6,7 +6,6 @@ use Rattle.plain_logic.specs.declared.axioms.PlainAxiom.TheVariants.{SubClass, D
 use Rattle.plain_logic.specs.declared.theory.Theory.{Theory}
 use Rattle.plain_logic.specs.Paths.{IsEdge, next_of, AreBounded}
 use Rattle.plain_logic.specs.Plain.{axiom_of}
-use Rattle.plain_logic.specs.Reach.{is_marked}
 
 -- over how many classes
 abbrev pub classes_of : Theory → ℕ

@@ -1,4 +1,5 @@
 //! Both documents and the rows of a table, as a family of incoherent sets of ranks.
+
 ghost use Rattle.std.specs.Prelude.{◌≡◌, ◌++◌, List, ℕ, IsTrue};
 ghost use Rattle.std.specs.List.{list_all};
 ghost use Rattle.plain_logic.specs.Plain.{names_below, row_below};
@@ -16,11 +17,17 @@ use std::alloc::{AllocError, Global};
 /// of their ranks.
 #[derive(Debug, Drop)]
 pub struct Case {
+    /// How many classes there are; their numbers start at 0.
     pub classes: u32,
+    /// The axioms of both documents.
     pub base: Vec<PlainAxiom>,
+    /// The rows: what stands at an index has that rank, and later ranks say nothing.
     pub rows: Vec<PlainRow>,
+    /// The documents name no other class.
     pub ghost names: { IsTrue (list_all (names_below classes) base.items) },
+    /// Nor do the rows.
     pub ghost row_names: { IsTrue (list_all (row_below classes) rows.items) },
+    /// The documents leave no class empty.
     pub ghost coherent: { AreCoherent classes base.items },
 }
 
@@ -70,6 +77,9 @@ impl Case {
         ensures row { result ≡ row_at self.now.rows.items rank }
         ensures names { RowBelow self.now.classes result }
     {
-        self.rows.get(rank as usize).copied().unwrap_or(PlainRow::Inert)
+        self.rows
+            .get(rank as usize)
+            .copied()
+            .unwrap_or(PlainRow::Inert)
     }
 }

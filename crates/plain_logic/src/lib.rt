@@ -4,6 +4,8 @@
 mod axioms;
 mod case;
 mod reach;
+#[cfg(test)]
+mod tests;
 mod theory;
 
 pub use axioms::{PlainAxiom, PlainRow};

@@ -1,8 +1,8 @@
 //! What edges lead to.
+
 ghost use Rattle.std.specs.Prelude.{◌≡◌, ◌<◌, ◌++◌, ℕ, List, length, All, Contains, IfOk, OnOk, IsTrue};
 ghost use Rattle.plain_logic.specs.Paths.{AreBounded, IsEdge};
 ghost use Rattle.plain_logic.specs.Reach.{IsFound, IsReach, is_marked};
-
 ghost use Rattle.plain_logic.specs.Added.{IsAdded, AreAdded};
 
 use el_logic::Numbers;
@@ -28,6 +28,7 @@ fn add(reached: &mut Reached, number: u32) -> Result<(), AllocError>
     Ok(())
 }
 
+// Marks and lists those of the numbers that are not found yet.
 fn add_all(reached: &mut Reached, numbers: &[u32]) -> Result<(), AllocError>
     requires { All (λ n. n < length reached.old.marks.items) numbers.now }
     ensures { OnOk result (AreAdded reached.old reached.new numbers.now) }

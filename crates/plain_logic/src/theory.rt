@@ -1,4 +1,5 @@
 //! Subclass and disjointness axioms as a graph, and which classes it leaves empty.
+
 ghost use Rattle.std.specs.Prelude.{◌≡◌, ◌<◌, ◌↔◌, ◌++◌, [], ◌∷◌, ℕ, List, length, map, All, false, IfOk, IfSome, IsTrue, MatchOption, MatchBool, OnOk, OnErr, replicate, slice_set};
 ghost use Rattle.plain_logic.specs.Paths.{AreBounded, next_of};
 ghost use Rattle.plain_logic.specs.Crossing.{IsCrossed, Crosses};
@@ -13,21 +14,26 @@ use crate::reach::{Reached, reach};
 use el_logic::Numbers;
 use std::alloc::{AllocError, Global};
 
-/// Axioms over so many classes: of each class the classes that it is put directly below, and those that are put
-/// directly below it, and the pairs that are disjoint.
+/// Axioms over so many classes. Which classes are empty follows from paths in a graph: just those from which subclass
+/// axioms lead to both of two disjoint classes, and so a further axiom is tested without a search for models.
 #[derive(Debug, Drop)]
 pub struct Theory {
+    // Of each class those that it is put directly below.
     upper: Vec<Numbers>,
+    // Of each class those that are put directly below it.
     lower: Vec<Numbers>,
+    // The pairs that share no member.
     disjoint: Vec<(u32, u32)>,
 }
 
+// Whether a class is in the set; a class past its end is not.
 fn is_marked(marks: &[bool], class: u32) -> bool
     ensures { result ≡ is_marked marks.now class }
 {
     marks.get(class as usize).copied().unwrap_or(false)
 }
 
+// Whether of two classes one is in the first set and the other in the second.
 fn crosses(marks: &[bool], others: &[bool], one: u32, other: u32) -> bool
     ensures { IsTrue result ↔ Crosses marks.now others.now one other }
 {
@@ -47,6 +53,7 @@ fn is_crossed(marks: &[bool], others: &[bool], pairs: &[(u32, u32)]) -> bool
     false
 }
 
+// Of each class no edge.
 fn no_edges(alloc: Global, classes: u32) -> Result<Vec<Numbers>, AllocError>
     ensures { IfOk result (λ edges. edges.items ≡ replicate classes []) }
 {
@@ -57,6 +64,7 @@ fn no_edges(alloc: Global, classes: u32) -> Result<Vec<Numbers>, AllocError>
     Ok(edges)
 }
 
+// Puts an edge behind those of a class.
 fn push_edge(edges: &mut Vec<Numbers>, from: u32, to: u32) -> Result<(), AllocError>
     requires { from < length edges.old.items }
     ensures ok { OnOk result (edges.new.items ≡ slice_set edges.old.items from (next_of edges.old.items from ++ to ∷ [])) }
@@ -67,6 +75,7 @@ fn push_edge(edges: &mut Vec<Numbers>, from: u32, to: u32) -> Result<(), AllocEr
     edges[from as usize].push(to)
 }
 
+// Takes back the last edge of a class.
 fn pop_edge(edges: &mut Vec<Numbers>, from: u32)
     requires { from < length edges.old.items }
     ensures popped { (rest : List ℕ) (last : ℕ) → next_of edges.old.items from ≡ rest ++ last ∷ [] → edges.new.items ≡ slice_set edges.old.items from rest }
@@ -80,7 +89,7 @@ impl Theory {
     ghost use Rattle.plain_logic.specs.Theory.{classes_of, IsSized, IsTheory, IsPutBelow, IsTakenBack, IsPair, AnswersRow, AreCoherent, AreIncoherent};
     ghost use Rattle.plain_logic.specs.Plain.{IsUnder, IsBroken};
 
-    /// A theory over these classes, without axioms.
+    /// A theory over so many classes, without axioms.
     pub fn new(alloc: Global, classes: u32) -> Result<Self, AllocError>
         ensures classes { IfOk result (λ t. classes_of t ≡ classes) }
         ensures sized { IfOk result IsSized }
@@ -93,6 +102,7 @@ impl Theory {
         })
     }
 
+    // Puts one class directly below the other.
     fn put_below(&mut self, lower: u32, upper: u32) -> Result<(), AllocError>
         requires sized { IsSized self.old }
         requires lower { lower < classes_of self.old }
@@ -117,6 +127,7 @@ impl Theory {
         pop_edge(&mut self.lower, upper);
     }
 
+    // Puts one more pair of disjoint classes.
     fn put_disjoint(&mut self, one: u32, other: u32) -> Result<(), AllocError>
         requires sized { IsSized self.old }
         ensures put { OnOk result (IsPair self.old self.new one other) }
@@ -171,7 +182,7 @@ impl Theory {
         Ok(true)
     }
 
-    /// Puts one more axiom behind the others.
+    /// Puts one more axiom behind the others, whatever it leaves empty. After an error the theory is of no further use.
     pub fn put(&mut self, axiom: &PlainAxiom) -> Result<(), AllocError>
         requires sized { IsSized self.old }
         requires names { NamesBelow (classes_of self.old) axiom.now }
@@ -218,7 +229,8 @@ impl Theory {
         Ok(false)
     }
 
-    /// Takes in what a row says, unless a class would be empty then; answers whether it did.
+    /// Takes in what a row says, unless a class would be empty then; answers whether it did. Of a refused row nothing is
+    /// kept, and after an error the theory is of no further use.
     pub fn accept(&mut self, alloc: Global, row: &PlainRow) -> Result<bool, AllocError>
         requires sized { IsSized self.old }
         requires names { RowBelow (classes_of self.old) row.now }
@@ -233,7 +245,8 @@ impl Theory {
         }
     }
 
-    /// The first class that no interpretation of the axioms gives a member.
+    /// The first class, by number, that no interpretation of the axioms gives a member; none where the axioms are
+    /// coherent.
     pub fn first_empty(&self, alloc: Global, classes: u32) -> Result<Option<u32>, AllocError>
         requires sized { IsSized self.now }
         requires classes { classes ≡ classes_of self.now }

@@ -1,4 +1,4 @@
-use Rattle.std.proofs.Common.{◌≡◌, ℕ, List, [], replicate}
+use Rattle.std.proofs.Common.{◌≡◌, [], replicate}
 use Rattle.plain_logic.proofs.theory.no_edges.Given as goal
 
 abbrev pub invariant-loop-class : goal.invariant-loop-class

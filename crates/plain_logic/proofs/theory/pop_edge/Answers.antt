@@ -1,4 +1,4 @@
-use Rattle.std.proofs.Common.{◌≡◌, ◌∙◌, ℕ, ◌<◌, List, [], length, Contains, subst, sym}
+use Rattle.std.proofs.Common.{◌∙◌, ℕ, List, [], Contains, subst}
 use Rattle.std.proofs.lemmas.List.{get_or_default}
 use Rattle.plain_logic.proofs.EdgeLaws.{bounded_with, popped}
 use Rattle.plain_logic.proofs.theory.pop_edge.Goals as goal

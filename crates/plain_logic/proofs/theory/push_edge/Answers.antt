@@ -1,6 +1,5 @@
-use Rattle.std.proofs.Common.{◌≡◌, ◌∙◌, ℕ, ◌<◌, List, [], length, Contains, subst, sym, ⊎_elim}
+use Rattle.std.proofs.Common.{◌∙◌, ℕ, ◌<◌, List, [], length, Contains, subst, sym, ⊎_elim}
 use Rattle.std.proofs.lemmas.List.{get_or_default}
-use Rattle.plain_logic.specs.Paths.{IsEdge}
 use Rattle.plain_logic.proofs.EdgeLaws.{bounded_with, pushed}
 use Rattle.plain_logic.proofs.theory.push_edge.Goals as goal
 

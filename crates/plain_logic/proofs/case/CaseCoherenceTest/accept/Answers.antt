@@ -1,4 +1,4 @@
-use Rattle.std.proofs.Common.{◌≡◌, ◌∷◌, [], ◌++◌, ℕ, List, subst, sym, refl}
+use Rattle.std.proofs.Common.{◌++◌, subst, sym, refl}
 use Rattle.plain_logic.specs.Plain.{axioms_of_row, axioms_of_ranks, row_at}
 use Rattle.plain_logic.specs.Theory.{classes_of}
 use Rattle.plain_logic.specs.Ranks.{HasTaken}

@@ -1,4 +1,4 @@
-use Rattle.std.proofs.Common.{◌≡◌, ◌∙◌, ℕ, Bool, ◌∷◌, [], ◌++◌, List, subst, sym}
+use Rattle.std.proofs.Common.{ℕ, ◌∷◌, [], ◌++◌, subst, sym}
 use Rattle.plain_logic.specs.declared.axioms.PlainAxiom.TheVariants.{SubClass}
 use Rattle.plain_logic.specs.declared.theory.Theory.{Theory}
 use Rattle.plain_logic.specs.Theory.{classes_of, IsTakenBack, AreCoherent, AnswersRow}

@@ -1,4 +1,4 @@
-use Rattle.std.proofs.Common.{◌≡◌, ◌∙◌, sym, refl}
+use Rattle.std.proofs.Common.{sym, refl}
 use Rattle.plain_logic.proofs.UnderLaws.{crossed_is_broken, broken_is_crossed, reach_moved, crossed_moved, bounded_moved}
 use Rattle.plain_logic.proofs.theory.Theory.is_empty.Goals as goal
 

@@ -1,4 +1,4 @@
-use Rattle.std.proofs.Common.{◌≡◌, Result, Ok, Err, OnOk, [], ◌∷◌, ◌++◌, subst, sym}
+use Rattle.std.proofs.Common.{Result, Ok, Err, OnOk, [], ◌∷◌, ◌++◌, subst, sym}
 use Rattle.plain_logic.specs.declared.axioms.PlainAxiom.{PlainAxiom}
 use Rattle.plain_logic.specs.Plain.{NamesBelow}
 use Rattle.plain_logic.specs.Theory.{classes_of, IsTheory}

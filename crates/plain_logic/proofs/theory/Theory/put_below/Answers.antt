@@ -1,4 +1,4 @@
-use Rattle.std.proofs.Common.{◌≡◌, ◌∙◌, ℕ, ◌<◌, length, subst, sym}
+use Rattle.std.proofs.Common.{◌∙◌, ℕ, ◌<◌, subst, sym}
 use Rattle.plain_logic.proofs.theory.Theory.put_below.Goals as goal
 
 pub returns-clause-still : goal.returns-clause-still
