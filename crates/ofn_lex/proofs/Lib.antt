@@ -1,1 +1,4 @@
 pub mod EndLaws
+pub mod TokenLaws
+pub mod AnswerLaws
+pub mod CharacterLaws

@@ -1,5 +1,6 @@
 -- A text as gaps and tokens in turn.
-use Rattle.std.specs.Prelude.{◌≡◌, ◌≤◌, ℕ, ◌+◌, List, [], ◌∷◌, ◌++◌, length, drop, false, Option, Some, None, Result, Ok, Err}
+use Rattle.std.specs.Prelude.{◌≡◌, ◌≤◌, ℕ, ◌+◌, List, [], ◌∷◌, ◌++◌, length, drop, false, Option, Some, None, Result, Ok, Err, ⊤}
+use Rattle.std.specs.Str.{IsCharBoundary}
 use Rattle.ofn_lex.specs.Bytes.{begins_gap}
 use Rattle.ofn_lex.specs.Forms.{GapPart, gap_bytes, IsGap, HasForm}
 use Rattle.ofn_lex.specs.Reading.{next_of}
@@ -59,3 +60,15 @@ IsLast text from (Some fault) = IsStuck text from fault
 abbrev pub HasTokens : List ℕ → ℕ → List Token → Option LexFault → Type 0
 HasTokens text from [] last = IsLast text from last
 HasTokens text from (token ∷ tokens) last = IsNext text from token × HasTokens text token.end tokens last
+
+-- gaps and tokens in turn from the offset on, to the end of the text or a fault
+pub record HasReading (text : List ℕ) (from : ℕ) : Type 0 where
+  pub tokens : List Token
+  pub last : Option LexFault
+  pub has : HasTokens text from tokens last
+
+-- what is read begins and ends where characters of the text do
+abbrev pub CutsAtCharacters : List ℕ → Result (Option Token) LexFault → Type 0
+CutsAtCharacters text (Ok None) = ⊤
+CutsAtCharacters text (Ok (Some token)) = IsCharBoundary text token.start × IsCharBoundary text token.end
+CutsAtCharacters text (Err fault) = IsCharBoundary text fault.offset

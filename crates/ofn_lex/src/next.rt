@@ -1,4 +1,6 @@
-ghost use Rattle.std.specs.Prelude.{◌≡◌, ◌≤◌, ◌<◌, ◌+◌, ◌^◌, length, ℕ, IfSome, IfOk};
+ghost use Rattle.std.specs.Prelude.{◌≡◌, ◌≤◌, ◌<◌, ◌+◌, ◌^◌, length, ℕ, IsUtf8, IfSome, IfOk};
+ghost use Rattle.std.specs.Str.{IsCharBoundary};
+ghost use Rattle.ofn_lex.specs.Texts.{IsAnswer, CutsAtCharacters};
 ghost use Rattle.ofn_lex.specs.Reading.{token_to, token_at, first_of, next_of};
 
 use crate::bytes::is_run_byte;
@@ -11,6 +13,8 @@ use crate::{LexFault, Token, TokenKind};
 pub fn next_token(text: &[u8], from: usize) -> Result<Option<Token>, LexFault>
     requires { from ≤ length text.now }
     ensures answer { result ≡ next_of text.now from }
+    ensures format { IsAnswer text.now from result }
+    ensures characters { IsUtf8 text.now → IsCharBoundary text.now from → CutsAtCharacters text.now result }
     ensures past { IfOk result (λ token. IfSome token (λ token. from < token.end)) }
     ensures within { IfOk result (λ token. IfSome token (λ token. token.end ≤ length text.now)) }
 {

@@ -1,0 +1,9 @@
+use Rattle.ofn_lex.proofs.AnswerLaws.{answer_in_steps}
+use Rattle.ofn_lex.proofs.CharacterLaws.{answer_keeps_characters}
+use Rattle.ofn_lex.proofs.next.next_token.Goals as goal
+
+pub returns-clause-format : goal.returns-clause-format
+returns-clause-format c = answer_in_steps _ _ _ _ _ _ c.split_at.ensures.back c.gap_end-at.ensures.end c.split_at-2.ensures.back c.first_of.ensures.answer
+
+pub returns-clause-characters : goal.returns-clause-characters
+returns-clause-characters c = λ utf8 start. answer_keeps_characters _ _ _ utf8 start (returns-clause-format c)
