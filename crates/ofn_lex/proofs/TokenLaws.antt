@@ -128,7 +128,6 @@ lang_reaches n (b ∷ bs) rest some all =
     let reached = span_reaches is_language_byte (n + 1 + 1) bs rest all.1 in
     reaches_end Lang n _ (span_end is_language_byte (n + 1 + 1) (bs ++ rest)) _ (rw all.0 refl) (omega (arith, reached))
 
-
 differs_step : (c : Bool) (b k : ℕ) → (b == k) ≡ c → is_run_byte b ≡ true → is_run_byte k ≡ false → c ≡ false
 differs_step true b k e p q = let same = ap is_run_byte (equal b k e) in cc
 differs_step false b k e p q = refl

@@ -40,5 +40,8 @@ pub fn is_run_byte(byte: u8) -> bool
 fn is_mark(byte: u8) -> bool
     ensures { result ≡ is_mark byte }
 {
-    matches!(byte, b'(' | b')' | b'<' | b'>' | b'"' | b'=' | b'#' | b'@' | b'^' | b'\\')
+    matches!(
+        byte,
+        b'(' | b')' | b'<' | b'>' | b'"' | b'=' | b'#' | b'@' | b'^' | b'\\'
+    )
 }

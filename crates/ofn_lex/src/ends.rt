@@ -4,7 +4,9 @@ ghost use Rattle.std.specs.Prelude.{◌≡◌, ◌≤◌, ◌<◌, ◌+◌, ◌^
 ghost use Rattle.ofn_lex.specs.Bytes.{is_language_byte, is_run_byte};
 ghost use Rattle.ofn_lex.specs.Ends.{gap_end, iri_end, quoted_end, span_end, some_span_end, carets_end};
 
-use crate::bytes::{ends_line, is_escaped, is_iri_byte, is_language_byte, is_run_byte, is_white_space};
+use crate::bytes::{
+    ends_line, is_escaped, is_iri_byte, is_language_byte, is_run_byte, is_white_space,
+};
 
 pub fn gap_end(at: usize, bytes: &[u8]) -> usize
     requires { at + length bytes.now < 2 ^ 63 }
