@@ -54,7 +54,7 @@ fn main(rt: HostRuntime) -> Result<()> {
         let start = Instant::now(&rt)?;
         let count = count_tokens(text.as_slice());
         let seconds = start.elapsed(&rt)?.as_secs_f64();
-        let bytes = text.len();
+        let bytes = u32::try_from(text.len())?;
         let rate = bytes as f64 / 1e6 / seconds;
         let cost = seconds * 1e9 / bytes as f64;
         println!(rt; "{bytes} bytes, {count} tokens: {seconds:.3} s, {rate:.1} megabytes a second, {cost:.2} ns a byte")?;

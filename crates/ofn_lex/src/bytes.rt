@@ -4,13 +4,13 @@ ghost use Rattle.ofn_lex.specs.Bytes.{ends_line, is_white_space, is_iri_byte, is
 pub fn ends_line(byte: u8) -> bool
     ensures { result ≡ ends_line byte }
 {
-    byte == b'\n' || byte == b'\r'
+    matches!(byte, b'\n' | b'\r')
 }
 
 pub fn is_white_space(byte: u8) -> bool
     ensures { result ≡ is_white_space byte }
 {
-    byte == b' ' || byte == b'\t' || ends_line(byte)
+    matches!(byte, b' ' | b'\t') || ends_line(byte)
 }
 
 pub fn is_iri_byte(byte: u8) -> bool
@@ -22,7 +22,7 @@ pub fn is_iri_byte(byte: u8) -> bool
 pub fn is_escaped(byte: u8) -> bool
     ensures { result ≡ is_escaped byte }
 {
-    byte == b'"' || byte == b'\\'
+    matches!(byte, b'"' | b'\\')
 }
 
 pub fn is_language_byte(byte: u8) -> bool

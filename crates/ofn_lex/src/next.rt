@@ -18,10 +18,8 @@ pub fn next_token(text: &[u8], from: usize) -> Result<Option<Token>, LexFault>
     ensures past { IfOk result (λ token. IfSome token (λ token. from < token.end)) }
     ensures within { IfOk result (λ token. IfSome token (λ token. token.end ≤ length text.now)) }
 {
-    let (_, rest) = text.split_at(from);
-    let at = gap_end(from, rest);
-    let (_, rest) = text.split_at(at);
-    first_of(at, rest)
+    let at = gap_end(from, &text[from..]);
+    first_of(at, &text[at..])
 }
 
 fn first_of(at: usize, bytes: &[u8]) -> Result<Option<Token>, LexFault>
