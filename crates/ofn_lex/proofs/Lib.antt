@@ -2,3 +2,4 @@ pub mod EndLaws
 pub mod TokenLaws
 pub mod AnswerLaws
 pub mod CharacterLaws
+pub mod CharacterForms

@@ -1,6 +1,7 @@
 //! Laws on tokens, each a function that does nothing: its contract is the law.
 
 ghost use Rattle.std.specs.Prelude.{◌≡◌, ◌∷◌, [], ℕ, List, ◌++◌, Option, Result, Ok, Some};
+ghost use Rattle.std.specs.Str.{encode_utf8_all};
 ghost use Rattle.ofn_lex.specs.Forms.{HasForm};
 ghost use Rattle.ofn_lex.specs.Reading.{next_of};
 ghost use Rattle.ofn_lex.specs.Texts.{IsAnswer, HasTokens, HasReading};
@@ -35,4 +36,10 @@ pub fn what_is_read_is_what_the_format_has()
 pub fn each_text_has_one_list_of_tokens()
     ensures some { (text : List ℕ) (from : ℕ) → HasReading text from }
     ensures one { (text : List ℕ) (from : ℕ) (tokens others : List Token) (last other : Option LexFault) → HasTokens text from tokens last → HasTokens text from others other → (tokens ≡ others) × (last ≡ other) }
+{}
+
+/// Characters have a form, with the tests asked of their numbers, exactly where their UTF-8 has it.
+pub fn forms_are_the_same_for_characters_and_bytes()
+    ensures bytes { (kind : TokenKind) (characters : List ℕ) → HasForm kind characters → HasForm kind (encode_utf8_all characters) }
+    ensures characters { (kind : TokenKind) (characters : List ℕ) → HasForm kind (encode_utf8_all characters) → HasForm kind characters }
 {}
