@@ -1,17 +1,16 @@
 -- What is read at an offset is what the format has there, and nothing else is; so a text has one list of tokens.
 use Rattle.std.proofs.Common.{◌≡◌, ◌≤◌, ◌<◌, ℕ, zero, suc, ◌+◌, ◌-◌, Bool, true, false, List, [], ◌∷◌, ◌++◌, length, drop, refl, ap, sym, subst, ◌∙◌, arith, Option, Some, None, Result, Ok, Err, append-nil, length-append, length-drop}
-use Rattle.std.specs.Prelude.{◌==◌, ◌||◌, ⊤}
-use Rattle.std.proofs.lemmas.List.{drop-drop, drop_at, drop_all}
-use Rattle.std.proofs.lemmas.Bool.Decides.{nat_tests}
+use Rattle.std.specs.Prelude.{◌==◌, ◌||◌}
+use Rattle.std.proofs.lemmas.List.{drop-drop, drop_at}
 use Rattle.ofn_lex.specs.declared.token.Token.{Token}
 use Rattle.ofn_lex.specs.declared.token.LexFault.{LexFault}
 use Rattle.ofn_lex.specs.declared.token.TokenKind.{TokenKind}
 use Rattle.ofn_lex.specs.declared.token.TokenKind.TheVariants.{Open, Close, Equals, FullIri, Quoted, Lang, Carets, Run}
-use Rattle.ofn_lex.specs.Bytes.{is_white_space, begins_gap, is_run_byte, is_mark}
+use Rattle.ofn_lex.specs.Bytes.{is_white_space, begins_gap, is_run_byte}
 use Rattle.ofn_lex.specs.Ends.{gap_end}
 use Rattle.ofn_lex.specs.Forms.{GapPart, gap_bytes, IsGap, HasForm}
 use Rattle.ofn_lex.specs.Reading.{token_at, or_fault, first_of, past_gap, next_of}
-use Rattle.ofn_lex.specs.Texts.{NoneLonger, BeginsNone, IsNext, IsDone, IsStuck, IsAnswer, IsLast, HasTokens, HasReading}
+use Rattle.ofn_lex.specs.Texts.{NoneLonger, BeginsNone, IsNext, IsAnswer, IsLast, HasTokens, HasReading}
 use Rattle.ofn_lex.proofs.EndLaws.{equal, gap_found, gap_again, BeginsNoGap}
 use Rattle.ofn_lex.proofs.TokenLaws.{IsFront, IsFrontIfSome, token_is_front, first_token, Reaches, form_is_read}
 

@@ -1,6 +1,6 @@
 -- The bytes of characters have a form exactly where the characters have it.
-use Rattle.std.proofs.Common.{◌≡◌, ◌≤◌, ◌<◌, ℕ, ◌+◌, ◌/◌, Bool, true, false, cond, List, [], ◌∷◌, ◌++◌, length, refl, ap, sym, subst, ◌∙◌, arith, append_assoc, append-nil, length-append, ⊎_elim, le-ltb, ◌&&◌, ◌||◌, not}
-use Rattle.std.specs.Prelude.{◌==◌, nat_lt, nat_le}
+use Rattle.std.proofs.Common.{◌≡◌, ◌≤◌, ◌<◌, ℕ, ◌+◌, ◌/◌, Bool, true, false, cond, List, [], ◌∷◌, ◌++◌, length, refl, ap, sym, subst, ◌∙◌, arith, length-append, ⊎_elim, le-ltb}
+use Rattle.std.specs.Prelude.{nat_lt}
 use Rattle.std.specs.List.{AllByRecursion}
 use Rattle.std.specs.Str.{encode_utf8_all}
 use Rattle.std.proofs.lemmas.Bool.{cases_lt}
@@ -15,7 +15,7 @@ use Rattle.ofn_lex.specs.Forms.{HasForm, QuotedPart, plain, escaped, IsQuotedPar
 abbrev AreHigh : List ℕ → Type 0
 AreHigh bytes = AllByRecursion (λ b. 128 ≤ b) bytes
 
-high_step : (u v w : Bool) (c : ℕ) → u ≡ false → 
+high_step : (u v w : Bool) (c : ℕ) → u ≡ false →
     AreHigh (cond u (c ∷ []) (cond v ((192 + c / 64) ∷ next c ∷ []) (cond w ((224 + c / 4096) ∷ next (c / 64) ∷ next c ∷ []) ((240 + c / 262144) ∷ next (c / 4096) ∷ next (c / 64) ∷ next c ∷ []))))
 high_step true v w c e = cc
 high_step false true w c e = (omega arith, (omega arith, tt))
@@ -51,10 +51,10 @@ bytes_pass : (passes : ℕ → Bool) (cs : List ℕ) → PassesHigh passes → A
 bytes_pass passes [] p all = tt
 bytes_pass passes (c ∷ cs) p all =
     let own : AllPassing passes (encode c) =
-        ⊎_elim
-        (λ low. subst (AllPassing passes) (sym (encode_ascii c low)) (all.0, tt))
-        (λ high. high_pass passes (encode c) p (encode_is_high c high))
-        (cases_lt c 128) in
+    ⊎_elim
+    (λ low. subst (AllPassing passes) (sym (encode_ascii c low)) (all.0, tt))
+    (λ high. high_pass passes (encode c) p (encode_is_high c high))
+    (cases_lt c 128) in
     all_append passes (encode c) (encode_utf8_all cs) own (bytes_pass passes cs p all.1)
 
 characters_pass : (passes : ℕ → Bool) (cs : List ℕ) → PassesHigh passes → AllPassing passes (encode_utf8_all cs) → AllPassing passes cs
@@ -62,10 +62,10 @@ characters_pass passes [] p all = tt
 characters_pass passes (c ∷ cs) p all =
     let behind = characters_pass passes cs p (all_behind passes (encode c) (encode_utf8_all cs) all) in
     let own : passes c ≡ true =
-        ⊎_elim
-        (λ low. let bytes : AllPassing passes (c ∷ encode_utf8_all cs) = subst (λ (l : List ℕ). AllPassing passes (l ++ encode_utf8_all cs)) (encode_ascii c low) all in bytes.0)
-        (λ high. p c high)
-        (cases_lt c 128) in
+    ⊎_elim
+    (λ low. let bytes : AllPassing passes (c ∷ encode_utf8_all cs) = subst (λ (l : List ℕ). AllPassing passes (l ++ encode_utf8_all cs)) (encode_ascii c low) all in bytes.0)
+    (λ high. p c high)
+    (cases_lt c 128) in
     (own, behind)
 
 iri_passes_high : PassesHigh is_iri_byte

@@ -1,11 +1,10 @@
 -- A token of UTF-8 begins and ends where characters do.
-use Rattle.std.proofs.Common.{◌≡◌, ◌≤◌, ◌<◌, ℕ, suc, ◌+◌, ◌-◌, Bool, true, false, List, [], ◌∷◌, ◌++◌, length, drop, get_or, refl, ap, sym, subst, ◌∙◌, arith, Option, Some, None, Result, Ok, Err, append_assoc, append-nil, length-append, length-drop, ⊎_elim}
-use Rattle.std.specs.Prelude.{◌==◌, ⊤, IsUtf8}
+use Rattle.std.proofs.Common.{◌≡◌, ◌≤◌, ◌<◌, ℕ, suc, ◌+◌, ◌-◌, Bool, true, false, List, [], ◌∷◌, ◌++◌, length, drop, get_or, refl, ap, sym, subst, ◌∙◌, arith, Option, Some, None, Result, Ok, Err, append_assoc, length-append, length-drop}
+use Rattle.std.specs.Prelude.{⊤, IsUtf8}
 use Rattle.std.specs.List.{AllByRecursion}
 use Rattle.std.specs.Str.{IsCharBoundary}
-use Rattle.std.proofs.lemmas.Bool.{cases_lt}
 use Rattle.std.proofs.lemmas.Bool.Decides.{nat_tests}
-use Rattle.std.proofs.lemmas.List.{get_or-drop, get_or-append-add, drop-drop, drop_at}
+use Rattle.std.proofs.lemmas.List.{get_or-drop, get_or-append-add}
 use Rattle.std.proofs.lemmas.Str.{IsCharBoundary-after_ascii}
 use Rattle.ofn_lex.specs.declared.token.Token.{Token}
 use Rattle.ofn_lex.specs.declared.token.LexFault.{LexFault}
@@ -13,7 +12,7 @@ use Rattle.ofn_lex.specs.declared.token.TokenKind.{TokenKind}
 use Rattle.ofn_lex.specs.declared.token.TokenKind.TheVariants.{Open, Close, Equals, FullIri, Quoted, Lang, Carets, Run}
 use Rattle.ofn_lex.specs.Bytes.{ends_line, is_white_space, is_language_byte, is_run_byte}
 use Rattle.ofn_lex.specs.Forms.{GapPart, white, comment, gap_bytes, EndsLine, IsGap, HasForm, quoted_bytes}
-use Rattle.ofn_lex.specs.Texts.{NoneLonger, IsNext, IsDone, IsStuck, IsAnswer, CutsAtCharacters}
+use Rattle.ofn_lex.specs.Texts.{NoneLonger, IsAnswer, CutsAtCharacters}
 use Rattle.ofn_lex.proofs.AnswerLaws.{drop_behind}
 
 -- the bytes are none, or the first is ASCII

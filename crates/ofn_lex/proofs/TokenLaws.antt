@@ -1,16 +1,15 @@
 -- A token that is read has its form, and no front with a form is longer.
-use Rattle.std.proofs.Common.{◌≡◌, ◌≤◌, ◌<◌, ℕ, ◌+◌, Bool, true, false, cond, List, [], ◌∷◌, ◌++◌, length, refl, ap, sym, subst, ◌∙◌, arith, Option, Some, None, append_assoc, length-append}
+use Rattle.std.proofs.Common.{◌≡◌, ◌≤◌, ℕ, ◌+◌, Bool, true, false, cond, List, [], ◌∷◌, ◌++◌, length, refl, ap, sym, subst, ◌∙◌, arith, Option, Some, None, append_assoc, length-append}
 use Rattle.std.specs.Prelude.{◌==◌, ⊤}
 use Rattle.std.specs.List.{AllByRecursion}
-use Rattle.std.proofs.lemmas.Bool.Decides.{nat_tests}
 use Rattle.ofn_lex.specs.declared.token.Token.{Token}
 use Rattle.ofn_lex.specs.declared.token.TokenKind.{TokenKind}
 use Rattle.ofn_lex.specs.declared.token.TokenKind.TheVariants.{Open, Close, Equals, FullIri, Quoted, Lang, Carets, Run}
-use Rattle.ofn_lex.specs.Bytes.{begins_gap, is_iri_byte, is_language_byte, is_run_byte}
+use Rattle.ofn_lex.specs.Bytes.{is_iri_byte, is_language_byte, is_run_byte}
 use Rattle.ofn_lex.specs.Ends.{iri_end, quoted_end, span_end, some_span_end, carets_end}
 use Rattle.ofn_lex.specs.Forms.{HasForm, QuotedPart, IsQuotedPart, quoted_bytes}
 use Rattle.ofn_lex.specs.Reading.{token_to, token_at}
-use Rattle.ofn_lex.proofs.EndLaws.{equal, span_found, span_reaches, iri_found, iri_again, quoted_found, quoted_again, BeginsNoGap}
+use Rattle.ofn_lex.proofs.EndLaws.{equal, span_found, span_reaches, iri_found, iri_again, quoted_found, quoted_again}
 
 -- the token is a front of the bytes, which begin at the offset n, and has the form of its kind
 pub record IsFront (n : ℕ) (bytes : List ℕ) (token : Token) : Type 0 where

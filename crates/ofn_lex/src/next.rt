@@ -1,4 +1,4 @@
-ghost use Rattle.std.specs.Prelude.{◌≡◌, ◌≤◌, ◌<◌, ◌+◌, ◌^◌, length, ℕ, IsUtf8, IfSome, IfOk};
+ghost use Rattle.std.specs.Prelude.{◌≡◌, ◌≤◌, ◌<◌, ◌+◌, ◌^◌, length, ℕ, IsUtf8, IfSome, IfOk, IfErr};
 ghost use Rattle.std.specs.Str.{IsCharBoundary};
 ghost use Rattle.ofn_lex.specs.Texts.{IsAnswer, CutsAtCharacters};
 ghost use Rattle.ofn_lex.specs.Reading.{token_to, token_at, first_of, next_of};
@@ -15,8 +15,9 @@ pub fn next_token(text: &[u8], from: usize) -> Result<Option<Token>, LexFault>
     ensures answer { result ≡ next_of text.now from }
     ensures format { IsAnswer text.now from result }
     ensures characters { IsUtf8 text.now → IsCharBoundary text.now from → CutsAtCharacters text.now result }
-    ensures past { IfOk result (λ token. IfSome token (λ token. from < token.end)) }
+    ensures past { IfOk result (λ token. IfSome token (λ token. (from ≤ token.start) × (token.start < token.end))) }
     ensures within { IfOk result (λ token. IfSome token (λ token. token.end ≤ length text.now)) }
+    ensures fault { IfErr result (λ fault. (from ≤ fault.offset) × (fault.offset < length text.now)) }
 {
     let at = gap_end(from, &text[from..]);
     first_of(at, &text[at..])
@@ -25,8 +26,9 @@ pub fn next_token(text: &[u8], from: usize) -> Result<Option<Token>, LexFault>
 fn first_of(at: usize, bytes: &[u8]) -> Result<Option<Token>, LexFault>
     requires { at + length bytes.now < 2 ^ 63 }
     ensures answer { result ≡ first_of at bytes.now }
-    ensures past { IfOk result (λ token. IfSome token (λ token. at < token.end)) }
+    ensures past { IfOk result (λ token. IfSome token (λ token. (at ≤ token.start) × (token.start < token.end))) }
     ensures within { IfOk result (λ token. IfSome token (λ token. token.end ≤ at + length bytes.now)) }
+    ensures fault { IfErr result (λ fault. (at ≤ fault.offset) × (fault.offset < at + length bytes.now)) }
 {
     let [first, rest @ ..] = bytes else {
         return Ok(None);
@@ -41,7 +43,7 @@ fn first_of(at: usize, bytes: &[u8]) -> Result<Option<Token>, LexFault>
 fn token_at(at: usize, first: u8, rest: &[u8]) -> Option<Token>
     requires { at + length rest.now + 1 < 2 ^ 63 }
     ensures token { result ≡ token_at at first rest.now }
-    ensures past { IfSome result (λ token. at < token.end) }
+    ensures past { IfSome result (λ token. (at ≤ token.start) × (token.start < token.end)) }
     ensures within { IfSome result (λ token. token.end ≤ at + length rest.now + 1) }
 {
     if first == b'(' {
@@ -73,7 +75,7 @@ fn token_at(at: usize, first: u8, rest: &[u8]) -> Option<Token>
 
 fn token_to(kind: TokenKind, start: usize, end: Option<usize>) -> Option<Token>
     ensures token { result ≡ token_to kind start end }
-    ensures past { (n : ℕ) → IfSome end (λ e. n < e) → IfSome result (λ token. n < token.end) }
+    ensures past { IfSome end (λ e. start < e) → IfSome result (λ token. (start ≤ token.start) × (token.start < token.end)) }
     ensures within { (n : ℕ) → IfSome end (λ e. e ≤ n) → IfSome result (λ token. token.end ≤ n) }
 {
     match end {
