@@ -1,4 +1,5 @@
--- The bytes that gaps and tokens are made of. Each byte that a test names is ASCII.
+-- The bytes that gaps and tokens are made of. Each byte that a test names is ASCII, so that a character
+-- past ASCII and each of its bytes pass the same tests.
 use Rattle.std.specs.Prelude.{ℕ, Bool, not, ◌&&◌, ◌||◌, ◌==◌, nat_le, nat_lt}
 
 -- line feed, carriage return

@@ -1,4 +1,4 @@
-//! Laws on tokens, each a function that does nothing: its contract is the law.
+//! Laws on tokens: functions that do nothing and whose contracts are the laws.
 
 ghost use Rattle.std.specs.Prelude.{◌≡◌, ◌∷◌, [], ℕ, List, ◌++◌, Option, Result, Ok, Some};
 ghost use Rattle.std.specs.Str.{encode_utf8_all};

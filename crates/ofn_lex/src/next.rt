@@ -46,31 +46,17 @@ fn token_at(at: usize, first: u8, rest: &[u8]) -> Option<Token>
     ensures past { IfSome result (λ token. (at ≤ token.start) × (token.start < token.end)) }
     ensures within { IfSome result (λ token. token.end ≤ at + length rest.now + 1) }
 {
-    if first == b'(' {
-        return token_to(TokenKind::Open, at, Some(at + 1));
+    match first {
+        b'(' => token_to(TokenKind::Open, at, Some(at + 1)),
+        b')' => token_to(TokenKind::Close, at, Some(at + 1)),
+        b'=' => token_to(TokenKind::Equals, at, Some(at + 1)),
+        b'<' => token_to(TokenKind::FullIri, at, iri_end(at + 1, rest)),
+        b'"' => token_to(TokenKind::Quoted, at, quoted_end(at + 1, rest)),
+        b'@' => token_to(TokenKind::Lang, at, language_end(at + 1, rest)),
+        b'^' => token_to(TokenKind::Carets, at, carets_end(at + 1, rest)),
+        _ if is_run_byte(first) => token_to(TokenKind::Run, at, Some(run_end(at + 1, rest))),
+        _ => None,
     }
-    if first == b')' {
-        return token_to(TokenKind::Close, at, Some(at + 1));
-    }
-    if first == b'=' {
-        return token_to(TokenKind::Equals, at, Some(at + 1));
-    }
-    if first == b'<' {
-        return token_to(TokenKind::FullIri, at, iri_end(at + 1, rest));
-    }
-    if first == b'"' {
-        return token_to(TokenKind::Quoted, at, quoted_end(at + 1, rest));
-    }
-    if first == b'@' {
-        return token_to(TokenKind::Lang, at, language_end(at + 1, rest));
-    }
-    if first == b'^' {
-        return token_to(TokenKind::Carets, at, carets_end(at + 1, rest));
-    }
-    if !is_run_byte(first) {
-        return None;
-    }
-    token_to(TokenKind::Run, at, Some(run_end(at + 1, rest)))
 }
 
 fn token_to(kind: TokenKind, start: usize, end: Option<usize>) -> Option<Token>
