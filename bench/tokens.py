@@ -42,7 +42,7 @@ fn made_text(alloc: Global, size: usize) -> Result<Vec<u8>> {
         if text.len() >= size {
             break;
         }
-        let line = format!(in alloc; "# Class: :C{i} (made)\\nSubClassOf(:C{i} ObjectSomeValuesFrom(<http://example.org/ontology#part{i}> :D{i}))\\nAnnotationAssertion(rdfs:label :C{i} \\"made class {i}\\"@en)\\n")?;
+        let line = format!(in alloc; "# Class: :C{i} (made)\\nSubClassOf(:C{i} ObjectSomeValuesFrom(<http://example.org/ontology#part{i}> :D{i}))\\nAnnotationAssertion(rdfs:label :C{i} \\"made class {i}\\"@en)\\nAnnotationAssertion(:size :C{i} \\"{i}\\"^^xsd:int)\\nPrefix(p{i}:=<http://example.org/{i}#>)\\n")?;
         text.extend_from_slice(line.as_str().as_bytes())?;
     }
     Ok(text)

@@ -21,7 +21,8 @@ pub fn least_forms_are_told_apart()
 
 /// Two tokens that the same bytes begin with are of one kind.
 pub fn first_bytes_tell_the_kind()
-    ensures { (one other : TokenKind) (front rest front' rest' : List ℕ) → HasForm one front → HasForm other front' → front ++ rest ≡ front' ++ rest' → one ≡ other }
+    ensures { (one other : TokenKind) (front rest front' rest' : List ℕ) →
+        HasForm one front → HasForm other front' → front ++ rest ≡ front' ++ rest' → one ≡ other }
 {}
 
 /// What is read is what the format has at that place, and the format has nothing else there: behind
@@ -29,17 +30,22 @@ pub fn first_bytes_tell_the_kind()
 /// no gap and no token.
 pub fn what_is_read_is_what_the_format_has()
     ensures found { (text : List ℕ) (from : ℕ) → IsAnswer text from (next_of text from) }
-    ensures alone { (text : List ℕ) (from : ℕ) (answer : Result (Option Token) LexFault) → IsAnswer text from answer → next_of text from ≡ answer }
+    ensures alone { (text : List ℕ) (from : ℕ) (answer : Result (Option Token) LexFault) →
+        IsAnswer text from answer → next_of text from ≡ answer }
 {}
 
 /// A text is gaps and tokens in turn, up to its end or a fault, in one way.
 pub fn each_text_has_one_list_of_tokens()
     ensures some { (text : List ℕ) (from : ℕ) → HasReading text from }
-    ensures one { (text : List ℕ) (from : ℕ) (tokens others : List Token) (last other : Option LexFault) → HasTokens text from tokens last → HasTokens text from others other → (tokens ≡ others) × (last ≡ other) }
+    ensures one { (text : List ℕ) (from : ℕ) (tokens others : List Token) (last other : Option LexFault) →
+        HasTokens text from tokens last → HasTokens text from others other →
+        (tokens ≡ others) × (last ≡ other) }
 {}
 
 /// Characters have a form, with the tests asked of their numbers, exactly where their UTF-8 has it.
 pub fn forms_are_the_same_for_characters_and_bytes()
-    ensures bytes { (kind : TokenKind) (characters : List ℕ) → HasForm kind characters → HasForm kind (encode_utf8_all characters) }
-    ensures characters { (kind : TokenKind) (characters : List ℕ) → HasForm kind (encode_utf8_all characters) → HasForm kind characters }
+    ensures bytes { (kind : TokenKind) (characters : List ℕ) →
+        HasForm kind characters → HasForm kind (encode_utf8_all characters) }
+    ensures characters { (kind : TokenKind) (characters : List ℕ) →
+        HasForm kind (encode_utf8_all characters) → HasForm kind characters }
 {}

@@ -61,7 +61,8 @@ fn token_at(at: usize, first: u8, rest: &[u8]) -> Option<Token>
 
 fn token_to(kind: TokenKind, start: usize, end: Option<usize>) -> Option<Token>
     ensures token { result ≡ token_to kind start end }
-    ensures past { IfSome end (λ e. start < e) → IfSome result (λ token. (start ≤ token.start) × (token.start < token.end)) }
+    ensures past { IfSome end (λ e. start < e) →
+        IfSome result (λ token. (start ≤ token.start) × (token.start < token.end)) }
     ensures within { (n : ℕ) → IfSome end (λ e. e ≤ n) → IfSome result (λ token. token.end ≤ n) }
 {
     match end {
