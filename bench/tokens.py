@@ -1,6 +1,7 @@
 #!/usr/bin/env python3
 """Reads made texts of one to eight megabytes to their end, token by token, and prints for each the
-seconds, the megabytes a second and the nanoseconds a byte, which are to stay as they are.
+least seconds of five readings, the megabytes a second and the nanoseconds a byte. The last are to
+be the same for each text.
 
 The driver is written to a temporary repository and built there by `rt run`, which proves it and
 the crate below it first: that takes some minutes, and is not measured.
@@ -48,16 +49,26 @@ fn made_text(alloc: Global, size: usize) -> Result<Vec<u8>> {
     Ok(text)
 }
 
+// How many tokens a text has, and the least seconds of five readings.
+fn reading(rt: &HostRuntime, text: &[u8]) -> Result<(usize, f64)> {
+    let mut count = 0;
+    let mut least = f64::MAX;
+    for _ in 0..5 {
+        let start = Instant::now(rt)?;
+        count = count_tokens(text);
+        least = least.min(start.elapsed(rt)?.as_secs_f64());
+    }
+    Ok((count, least))
+}
+
 fn main(rt: HostRuntime) -> Result<()> {
     for size in [1_000_000usize, 2_000_000, 4_000_000, 8_000_000] {
         let text = made_text(rt.alloc(), size)?;
-        let start = Instant::now(&rt)?;
-        let count = count_tokens(text.as_slice());
-        let seconds = start.elapsed(&rt)?.as_secs_f64();
+        let (count, seconds) = reading(&rt, text.as_slice())?;
         let bytes = u32::try_from(text.len())?;
         let rate = bytes as f64 / 1e6 / seconds;
         let cost = seconds * 1e9 / bytes as f64;
-        println!(rt; "{bytes} bytes, {count} tokens: {seconds:.3} s, {rate:.1} megabytes a second, {cost:.2} ns a byte")?;
+        println!(rt; "{bytes} bytes, {count} tokens: {seconds:.4} s, {rate:.1} megabytes a second, {cost:.2} ns a byte")?;
     }
     Ok(())
 }

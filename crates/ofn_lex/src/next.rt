@@ -160,7 +160,7 @@ mod tests {
     #[test]
     fn reads_rows(rt: HostRuntime) -> Result<(), Fail> {
         let alloc = rt.alloc();
-        let rows: [(&str, &[(TokenKind, usize, usize)], Option<usize>); 47] = [
+        let rows: [(&str, &[(TokenKind, usize, usize)], Option<usize>); 53] = [
             ("", &[], None),
             (" \t\r\n", &[], None),
             ("# (", &[], None),
@@ -173,6 +173,7 @@ mod tests {
             ("a=b", &[(Run, 0, 1), (Equals, 1, 2), (Run, 2, 3)], None),
             ("<>", &[(FullIri, 0, 2)], None),
             ("<#a>", &[(FullIri, 0, 4)], None),
+            ("<!\u{7f}>", &[(FullIri, 0, 4)], None),
             ("<a b>", &[], Some(0)),
             ("<a\n>", &[], Some(0)),
             ("<\u{1}>", &[], Some(0)),
@@ -181,8 +182,10 @@ mod tests {
             ("<", &[], Some(0)),
             (">", &[], Some(0)),
             ("a>", &[(Run, 0, 1)], Some(1)),
+            (r"a\", &[(Run, 0, 1)], Some(1)),
             (r#""""#, &[(Quoted, 0, 2)], None),
             ("\"\n\"", &[(Quoted, 0, 3)], None),
+            ("\"\u{0}<\"", &[(Quoted, 0, 4)], None),
             (r##""#)"##, &[], Some(0)),
             (r##"("#)"##, &[(Open, 0, 1)], Some(1)),
             (r#""\"\\"a"#, &[(Quoted, 0, 6), (Run, 6, 7)], None),
@@ -197,10 +200,14 @@ mod tests {
             ("@", &[], Some(0)),
             ("@ en", &[], Some(0)),
             ("@en_GB", &[(Lang, 0, 3), (Run, 3, 6)], None),
+            ("@a/[`{", &[(Lang, 0, 2), (Run, 2, 6)], None),
             ("@-Zz09(", &[(Lang, 0, 6), (Open, 6, 7)], None),
             ("a:b/c,d'e", &[(Run, 0, 9)], None),
-            // A no-break space and a vertical tab are no white space.
-            ("\u{a0}\u{b}", &[(Run, 0, 3)], None),
+            // A no-break space, a vertical tab and a form feed are no white space, and neither these
+            // nor a next line and a line separator end a comment.
+            ("\u{a0}\u{b}\u{c}", &[(Run, 0, 4)], None),
+            ("#\u{b}\u{c}\u{85}\u{2028})\n(", &[(Open, 10, 11)], None),
+            ("\u{0}\u{8}\u{e}\u{1f}", &[(Run, 0, 4)], None),
             // Characters of two, three and four bytes.
             ("<é€😀>", &[(FullIri, 0, 11)], None),
             ("\"é€😀\"", &[(Quoted, 0, 11)], None),
