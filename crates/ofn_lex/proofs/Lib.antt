@@ -1,0 +1,5 @@
+pub mod EndLaws
+pub mod TokenLaws
+pub mod AnswerLaws
+pub mod CharacterLaws
+pub mod CharacterForms
