@@ -11,7 +11,7 @@ use Rattle.repair_run.proofs.ChoiceLaws.{all_names_test, all_rows_test, ranking_
 use Rattle.repair_run.proofs.diagnosis.chosen.Goals as goal
 
 count_of : (rows texts : List RowText) → texts ≡ rows → length (confidences_of texts) ≡ length rows
-count_of rows texts e = length-map (λ (row : RowText). row.tenths) texts ∙ ap length e
+count_of rows texts e = length-map texts (λ (row : RowText). row.tenths) ∙ ap length e
 
 pub ranked_rows-requires : goal.ranked_rows-requires
 ranked_rows-requires c =
@@ -43,7 +43,7 @@ marks-requires-clause-ranks c =
     let texts = c.as_slice-texts.result.now in
     let order = c.in_ok-order.order.items in
     let incoherent = AreIncoherentRanks c.len-classes.result c.args.base.items c.in_ok-rows.rows.items in
-    let counted = ap length c.as_slice-2.ensures.value ∙ ranking_length (confidences_of texts) order c.in_ok-order.ensures ∙ length-map (λ (row : RowText). row.tenths) texts ∙ sym c.in_ok-count.ensures in
+    let counted = ap length c.as_slice-2.ensures.value ∙ ranking_length (confidences_of texts) order c.in_ok-order.ensures ∙ length-map texts (λ (row : RowText). row.tenths) ∙ sym c.in_ok-count.ensures in
     subst (All (λ (rank : ℕ). rank < length c.as_slice-2.result.now)) (sym c.as_slice-3.ensures.value)
     (repair_within incoherent c.in_ok-count.count (length c.as_slice-2.result.now) c.in_ok-ranks.ranks.items c.in_ok-ranks.ensures counted)
 
@@ -59,7 +59,7 @@ returns-clause-chosen c =
     let order = c.in_ok-order.order.items in
     let ranks = c.in_ok-ranks.ranks.items in
     let incoherent = AreIncoherentRanks c.len-classes.result c.args.base.items c.in_ok-rows.rows.items in
-    let counted : c.in_ok-count.count ≡ length (confidences_of rows) = c.in_ok-count.ensures ∙ ap length c.as_slice-texts.ensures ∙ sym (length-map (λ (row : RowText). row.tenths) rows) in
+    let counted : c.in_ok-count.count ≡ length (confidences_of rows) = c.in_ok-count.ensures ∙ ap length c.as_slice-texts.ensures ∙ sym (length-map rows (λ (row : RowText). row.tenths)) in
     record {
       classes = c.len-classes.result;
       base = c.args.base.items;

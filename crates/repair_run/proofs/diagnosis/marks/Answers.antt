@@ -1,5 +1,5 @@
-use Rattle.std.proofs.Common.{◌≡◌, ◌∙◌, ℕ, ◌+◌, ◌<◌, true, length, take, set, get_or, slice_index, sym, subst, rules}
-use Rattle.std.proofs.lemmas.List.{length-set}
+use Rattle.std.proofs.Common.{◌≡◌, ◌∙◌, ℕ, ◌+◌, ◌<◌, ◌≤◌, true, length, take, set, get_or, slice_index, sym, subst, rules}
+use Rattle.std.proofs.lemmas.List.{length-set, take_all}
 use Rattle.std.proofs.lemmas.List.Elements.{All-get_or}
 use Rattle.repair_run.specs.Choice.{rows_at, AreMarked}
 use Rattle.repair_run.proofs.ChoiceLaws.{marked_more, rows_at_more}
@@ -24,5 +24,6 @@ loop-rank-preserved c =
 
 pub returns-clause-marked : goal.returns-clause-marked
 returns-clause-marked c =
-    let whole : take c.loop-rank.rank-index c.args.ranks.now ≡ c.args.ranks.now = search rules in
+    let past : length c.args.ranks.now ≤ c.loop-rank.rank-index = search rules in
+    let whole = take_all c.loop-rank.rank-index c.args.ranks.now past in
     subst (λ ranks. AreMarked c.loop-rank.marks.items (rows_at c.args.order.now ranks)) whole c.loop-rank.invariant.marked
