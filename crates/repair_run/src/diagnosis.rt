@@ -151,7 +151,11 @@ fn chosen(
     let rows = ranked_rows(alloc, names, table, order.as_slice())?;
     let inert = rows.iter().filter(|row| **row == PlainRow::Inert).count();
     let classes = names.len();
-    let case = Case { classes, base, rows };
+    let case = Case {
+        classes,
+        base,
+        rows,
+    };
     let ranks = choose(alloc, &case, count)?;
     let keep = marks(alloc, order.as_slice(), ranks.as_slice())?;
     let kept = kept_count(keep.as_slice());

@@ -1,4 +1,4 @@
-use Rattle.std.proofs.Common.{◌≡◌, ◌∙◌, ℕ, ◌<◌, List, length, map, All, sym, ap, subst}
+use Rattle.std.proofs.Common.{◌≡◌, ◌∙◌, ℕ, ◌<◌, List, length, All, sym, ap, subst}
 use Rattle.std.proofs.lemmas.List.{length-map}
 use Rattle.conflict_logic.specs.Order.{IsRanking}
 use Rattle.conflict_logic.specs.Repair.{IsRepair}
