@@ -144,6 +144,34 @@ fn repairs_the_worked_tables(rt: HostRuntime) -> Result<(), Fail> {
     Ok(())
 }
 
+#[test]
+fn keeps_the_earlier_of_equals(rt: HostRuntime) -> Result<(), Fail> {
+    let alloc = rt.alloc();
+    let (disjoint, declared): (&[u8], &[u8]) = (
+        b"DisjointClasses(:A :B)",
+        b"Declaration(Class(:X))",
+    );
+    let below_a: &[u8] = b"r:X\tskos:broadMatch\tl:A\t0.8";
+    let below_b: &[u8] = b"r:X\tskos:broadMatch\tl:B\t0.8";
+    let inert: &[u8] = b"r:X\tskos:broadMatch\tl:Q\t0.8";
+    let one_goes: &[u8] = b"alod: rows 2 kept 1 removed 1 inert 0 omitted 0\n";
+    let half_goes: &[u8] = b"alod: rows 10 kept 5 removed 5 inert 0 omitted 0\n";
+    let inert_stays: &[u8] = b"alod: rows 3 kept 2 removed 1 inert 1 omitted 0\n";
+    let ten: [&[u8]; 10] = [
+        below_b, below_a, below_a, below_b, below_a, below_b, below_b, below_a, below_b, below_a,
+    ];
+    let cases: [(&[&[u8]], &[&[u8]], &[u8]); 4] = [
+        (&[below_a, below_b], &[below_a], one_goes),
+        (&[below_b, below_a], &[below_b], one_goes),
+        (&ten, &[below_b; 5], half_goes),
+        (&[below_a, inert, below_b], &[below_a, inert], inert_stays),
+    ];
+    for (rows, kept, summary) in cases {
+        keeps(&rt, alloc, disjoint, declared, rows, kept, summary)?;
+    }
+    Ok(())
+}
+
 // A refusal: the status, the line, and that no file was written.
 fn refuses(
     rt: &impl Abort,
