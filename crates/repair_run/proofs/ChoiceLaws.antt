@@ -1,5 +1,5 @@
 -- Names within the classes, and marks of rows.
-use Rattle.std.proofs.Common.{◌≡◌, ◌≢◌, ◌↔◌, ℕ, ◌+◌, ◌<◌, ◌≤◌, ◌&&◌, Bool, true, false, nat_lt, if◌then◌else◌, List, [], ◌∷◌, ◌++◌, length, take, get_or, set, slice_index, Option, Some, Result, OnOk, OnErr, None, MatchOption, bytes_eq, refl, sym, ◌∙◌, ap, subst, IsTrue, Contains, All, ⊎_elim, arith}
+use Rattle.std.proofs.Common.{◌≡◌, ◌≢◌, ◌↔◌, ℕ, zero, suc, map, true≢false, ◌+◌, ◌<◌, ◌≤◌, ◌&&◌, Bool, true, false, nat_lt, if◌then◌else◌, List, [], ◌∷◌, ◌++◌, length, take, get_or, set, slice_index, Option, Some, Result, OnOk, OnErr, None, MatchOption, bytes_eq, refl, sym, ◌∙◌, ap, subst, IsTrue, Contains, All, ⊎_elim, arith}
 use Rattle.std.specs.List.{list_all, range_with_len}
 use Rattle.std.proofs.lemmas.Bool.{cases_eq}
 use Rattle.std.proofs.lemmas.Bool.Decides.{nat_tests}
@@ -14,7 +14,7 @@ use Rattle.text_names.specs.Names.{number_of, with_name, is_held}
 use Rattle.plain_logic.specs.declared.axioms.PlainAxiom.{PlainAxiom}
 use Rattle.plain_logic.specs.declared.axioms.PlainAxiom.TheVariants.{SubClass, Disjoint}
 use Rattle.plain_logic.specs.declared.axioms.PlainRow.{PlainRow}
-use Rattle.plain_logic.specs.Plain.{NamesBelow, RowBelow, names_below, row_below, axioms_of_row}
+use Rattle.plain_logic.specs.Plain.{NamesBelow, RowBelow, names_below, row_below, row_at, axioms_of_row}
 use Rattle.repair_run.specs.Choice.{rows_at, AreMarked}
 
 -- a name that is held has a number below the count of names
@@ -53,6 +53,10 @@ names_test n (Disjoint a b) h = let e = pass a n h.0 in let f = pass b n h.1 in 
 both_pass : (a b : Bool) → a ≡ true → b ≡ true → (a && b) ≡ true
 both_pass a b e f = cc
 
+both_parts : (a b : Bool) → (a && b) ≡ true → (a ≡ true) × (b ≡ true)
+both_parts true b e = (refl, e)
+both_parts false b e = absurd (true≢false (sym e))
+
 pub all_names_test : (n : ℕ) (ps : List PlainAxiom) → All (NamesBelow n) ps → list_all (names_below n) ps ≡ true
 all_names_test n [] h = refl
 all_names_test n (p ∷ ps) h = both_pass (names_below n p) (list_all (names_below n) ps) (names_test n p (All-head (NamesBelow n) p ps h)) (all_names_test n ps (All-tail (NamesBelow n) p ps h))
@@ -60,6 +64,20 @@ all_names_test n (p ∷ ps) h = both_pass (names_below n p) (list_all (names_bel
 pub all_rows_test : (n : ℕ) (rows : List PlainRow) → All (RowBelow n) rows → list_all (row_below n) rows ≡ true
 all_rows_test n [] h = refl
 all_rows_test n (row ∷ rows) h = both_pass (row_below n row) (list_all (row_below n) rows) (all_names_test n (axioms_of_row row) (All-head (RowBelow n) row rows h)) (all_rows_test n rows (All-tail (RowBelow n) row rows h))
+
+-- rows in another order are within the classes too; past the rows there is nothing said
+row_test : (n : ℕ) (rows : List PlainRow) (number : ℕ) → list_all (row_below n) rows ≡ true → row_below n (row_at rows number) ≡ true
+row_test n [] zero h = refl
+row_test n [] (suc number) h = refl
+row_test n (row ∷ rows) zero h = (both_parts (row_below n row) (list_all (row_below n) rows) h).0
+row_test n (row ∷ rows) (suc number) h = row_test n rows number (both_parts (row_below n row) (list_all (row_below n) rows) h).1
+
+ranked_test : (n : ℕ) (rows : List PlainRow) (order : List ℕ) → list_all (row_below n) rows ≡ true → list_all (row_below n) (map (row_at rows) order) ≡ true
+ranked_test n rows [] h = refl
+ranked_test n rows (number ∷ order) h = both_pass (row_below n (row_at rows number)) (list_all (row_below n) (map (row_at rows) order)) (row_test n rows number h) (ranked_test n rows order h)
+
+pub all_ranked_test : (n : ℕ) (rows : List PlainRow) (order : List ℕ) → All (RowBelow n) rows → list_all (row_below n) (map (row_at rows) order) ≡ true
+all_ranked_test n rows order h = ranked_test n rows order (all_rows_test n rows h)
 
 -- one more row is marked
 pub marked_more : (marks : List Bool) (rows : List ℕ) (row : ℕ) → row < length marks → AreMarked marks rows → AreMarked (set marks row true) (rows ++ row ∷ [])

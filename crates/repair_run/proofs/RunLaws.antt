@@ -8,7 +8,7 @@ use Rattle.repair_run.specs.declared.first_form.TableText.{TableText}
 use Rattle.repair_run.specs.declared.status.Status.{Status}
 use Rattle.repair_run.specs.FirstForm.{repaired_text}
 use Rattle.repair_run.specs.Status.{refusal_line}
-use Rattle.repair_run.specs.Choice.{confidences_of, IsChosen}
+use Rattle.repair_run.specs.Choice.{IsChosen}
 use Rattle.repair_run.specs.Words.{FileNames}
 use Rattle.repair_run.specs.Plan.{Plan, Refused, plan, Ready, IsLoaded}
 use Rattle.repair_run.specs.Run.{Texts, Outcome, summary_text, kept_count, IsDone, IsWritten, IsTorn, IsPutShort, IsStop, IsQuiet, FilesStand, OutputStands, IsWriteStop, IsOrMemory, IsOrReadStop}
@@ -51,7 +51,7 @@ module _ (o : Option Files) (names : FileNames) (left right : DocumentText) (tab
   abbrev texts : (files : Files) → o ≡ Some files → Texts files names
   texts files e = record { left = left; right = right; table = table; ready = use_told o (λ f. plan f names ≡ Ready left right table) files e loaded }
 
-  module _ (keep : List Bool) (inert : ℕ) (each : length keep ≡ length table.rows) (chosen : IsChosen (confidences_of table.rows) keep) (text line : List ℕ) (writes : text ≡ repaired_text table keep) (says : line ≡ summary_text (length table.rows) (kept_count keep) inert) where
+  module _ (keep : List Bool) (inert : ℕ) (each : length keep ≡ length table.rows) (chosen : IsChosen table keep inert) (text line : List ℕ) (writes : text ≡ repaired_text table keep) (says : line ≡ summary_text (length table.rows) (kept_count keep) inert) where
     abbrev outcome : (files : Files) → o ≡ Some files → Outcome files names
     outcome files e = record { texts = texts files e; rows = record { keep = keep; inert = inert; each_row = each; chosen = chosen } }
 

@@ -8,7 +8,7 @@ use Rattle.repair_run.specs.declared.first_form.TableText.{TableText}
 use Rattle.repair_run.specs.declared.status.Status.{Status}
 use Rattle.repair_run.specs.FirstForm.{repaired_text}
 use Rattle.repair_run.specs.Status.{refusal_line}
-use Rattle.repair_run.specs.Choice.{confidences_of, IsChosen}
+use Rattle.repair_run.specs.Choice.{IsChosen}
 use Rattle.repair_run.specs.Words.{FileNames, name_of}
 use Rattle.repair_run.specs.Plan.{Refused, Ready, plan, IsReached}
 
@@ -32,7 +32,7 @@ pub record Kept (left right : DocumentText) (table : TableText) : Type 0 where
   pub keep : List Bool
   pub inert : ℕ
   pub each_row : length keep ≡ length table.rows
-  pub chosen : IsChosen (confidences_of table.rows) keep
+  pub chosen : IsChosen table keep inert
 
 -- what is read, and what is kept of it
 pub record Outcome (files : Files) (names : FileNames) : Type 0 where

@@ -1,9 +1,9 @@
 //! The rows to keep.
-ghost use Rattle.std.specs.Prelude.{◌≡◌, ◌<◌, ◌^◌, length, All, IfOk, IfErr, OnOk};
+ghost use Rattle.std.specs.Prelude.{◌≡◌, ◌<◌, ◌^◌, length, map, All, IfOk, IfErr, OnOk};
 ghost use Rattle.conflict_logic.specs.Order.{IsRanking};
-ghost use Rattle.plain_logic.specs.Plain.{NamesBelow, RowBelow};
+ghost use Rattle.plain_logic.specs.Plain.{NamesBelow, RowBelow, row_at};
 ghost use Rattle.plain_logic.specs.Theory.{AreCoherent};
-ghost use Rattle.repair_run.specs.Choice.{confidences_of, rows_at, AreMarked, IsChosen};
+ghost use Rattle.repair_run.specs.Choice.{confidences_of, rows_at, rows_of, inert_count, is_inert, AreMarked, IsChosen};
 ghost use Rattle.repair_run.specs.FirstForm.{AreOfForm};
 ghost use Rattle.repair_run.specs.Run.{kept_count, IsDiagnosisStop};
 
@@ -93,22 +93,44 @@ fn coherent_axioms(
     Ok(both)
 }
 
-// What each row says, in this order.
-fn ranked_rows(
+// What each row says.
+fn plain_rows(
     alloc: Global,
     names: &NameTable,
     table: &TableText,
-    order: &[u32],
 ) -> Result<Vec<PlainRow>, AllocError>
-    requires { All (λ row. row < length table.now.rows) order.now }
-    ensures { IfOk result (λ rows. All (RowBelow (length names.now.names)) rows.items) }
+    ensures below { IfOk result (λ rows. All (RowBelow (length names.now.names)) rows.items) }
+    ensures rows { IfOk result (λ rows. rows.items ≡ rows_of names.now.names table.now) }
 {
-    let mut rows = Vec::with_capacity(alloc, order.len())?;
-    for number in order {
-        let row = &table.rows.as_slice()[*number as usize];
+    let mut rows = Vec::with_capacity(alloc, table.rows.len())?;
+    for row in table.rows.as_slice() {
         rows.push(plain_row(alloc, names, table, row)?)?;
     }
     Ok(rows)
+}
+
+// The rows in this order.
+fn ranked(alloc: Global, rows: &[PlainRow], order: &[u32]) -> Result<Vec<PlainRow>, AllocError>
+    requires { All (λ row. row < length rows.now) order.now }
+    ensures { IfOk result (λ ranked. ranked.items ≡ map (row_at rows.now) order.now) }
+{
+    let mut ranked = Vec::with_capacity(alloc, order.len())?;
+    for number in order {
+        ranked.push(rows[*number as usize])?;
+    }
+    Ok(ranked)
+}
+
+fn is_inert(row: &PlainRow) -> bool
+    ensures { result ≡ is_inert row.now }
+{
+    matches!(row, PlainRow::Inert)
+}
+
+fn inert_count(rows: &[PlainRow]) -> usize
+    ensures { result ≡ inert_count rows.now }
+{
+    rows.iter().filter(|row| is_inert(row)).count()
 }
 
 // Marks the rows at these ranks.
@@ -142,14 +164,15 @@ fn chosen(
     requires names { All (NamesBelow (length names.now.names)) base.items }
     requires coherent { AreCoherent (length names.now.names) base.items }
     ensures each { IfOk result (λ d. length d.keep.items ≡ length table.now.rows) }
-    ensures chosen { IfOk result (λ d. IsChosen (confidences_of table.now.rows) d.keep.items) }
+    ensures chosen { IfOk result (λ d. IsChosen table.now d.keep.items d.inert) }
     ensures kept { IfOk result (λ d. d.kept ≡ kept_count d.keep.items) }
 {
     let texts = table.rows.as_slice();
     let count = row_count(texts)?;
     let order = ranking(alloc, texts)?;
-    let rows = ranked_rows(alloc, names, table, order.as_slice())?;
-    let inert = rows.iter().filter(|row| **row == PlainRow::Inert).count();
+    let said = plain_rows(alloc, names, table)?;
+    let inert = inert_count(said.as_slice());
+    let rows = ranked(alloc, said.as_slice(), order.as_slice())?;
     let classes = names.len();
     let case = Case {
         classes,
@@ -171,7 +194,7 @@ pub fn diagnose(
 ) -> Result<Diagnosis, Status>
     requires { AreOfForm left.now right.now table.now }
     ensures each { IfOk result (λ d. length d.keep.items ≡ length table.now.rows) }
-    ensures chosen { IfOk result (λ d. IsChosen (confidences_of table.now.rows) d.keep.items) }
+    ensures chosen { IfOk result (λ d. IsChosen table.now d.keep.items d.inert) }
     ensures kept { IfOk result (λ d. d.kept ≡ kept_count d.keep.items) }
     ensures err { IfErr result IsDiagnosisStop }
 {

@@ -1,6 +1,8 @@
 //! Documents and rows over numbered class names.
 ghost use Rattle.std.specs.Prelude.{◌≡◌, ◌<◌, ◌≤◌, ◌++◌, length, IfOk, IfSome, IsTrue, IsUtf8, All};
 ghost use Rattle.plain_logic.specs.Plain.{NamesBelow, RowBelow};
+ghost use Rattle.text_names.specs.Names.{number_of};
+ghost use Rattle.repair_run.specs.Choice.{full_name, row_of};
 ghost use Rattle.repair_run.specs.FirstForm.{is_name, is_iri, IsAxiomText};
 
 use crate::first_form::{AxiomText, Curie, DocumentText, Predicate, RowText, TableText};
@@ -87,7 +89,8 @@ fn class_of(
     table: &TableText,
     curie: &Curie,
 ) -> Result<Option<u32>, AllocError>
-    ensures { IfOk result (λ found. IfSome found (λ class. class < length names.now.names)) }
+    ensures below { IfOk result (λ found. IfSome found (λ class. class < length names.now.names)) }
+    ensures class { IfOk result (λ found. found ≡ number_of names.now.names (full_name table.now curie.now)) }
 {
     let iri = match curie.side {
         Side::Left => table.left_iri.as_slice(),
@@ -105,7 +108,8 @@ pub fn plain_row(
     table: &TableText,
     row: &RowText,
 ) -> Result<PlainRow, AllocError>
-    ensures { IfOk result (RowBelow (length names.now.names)) }
+    ensures below { IfOk result (RowBelow (length names.now.names)) }
+    ensures row { IfOk result (λ said. said ≡ row_of names.now.names table.now row.now) }
 {
     let Some(subject) = class_of(alloc, names, table, &row.subject)? else {
         return Ok(PlainRow::Inert);
