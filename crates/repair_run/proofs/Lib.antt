@@ -5,4 +5,9 @@ pub mod DocumentLaws
 pub mod TableLaws
 pub mod RunLaws
 pub mod AsciiLaws
+pub mod NumberLaws
+pub mod PlanLaws
+pub mod DiagnosisLaws
+pub mod FamilyLaws
+pub mod FoundLaws
 pub mod ChoiceLaws

@@ -3,6 +3,7 @@ use Rattle.std.proofs.Common.{◌≡◌, ◌⊎◌, ℕ, ◌≤◌, Bool, List, 
 use Rattle.io_edge.specs.Outside.{Files, Rose, with_file}
 use Rattle.io_edge.specs.declared.outside.Role.{Role}
 use Rattle.io_edge.specs.declared.outside.Target.TheVariants as Target
+use Rattle.el_logic.specs.declared.types.Part.{Part}
 use Rattle.repair_run.specs.declared.first_form.DocumentText.{DocumentText}
 use Rattle.repair_run.specs.declared.first_form.TableText.{TableText}
 use Rattle.repair_run.specs.declared.status.Status.{Status}
@@ -10,8 +11,13 @@ use Rattle.repair_run.specs.FirstForm.{repaired_text}
 use Rattle.repair_run.specs.Status.{refusal_line}
 use Rattle.repair_run.specs.Choice.{IsChosen}
 use Rattle.repair_run.specs.Words.{FileNames}
+use Rattle.repair_run.specs.Texts.{AreRead, IsUnbuilt, Texts}
 use Rattle.repair_run.specs.Plan.{Plan, Refused, plan, Ready, IsLoaded}
-use Rattle.repair_run.specs.Run.{Texts, Outcome, summary_text, kept_count, IsDone, IsWritten, IsTorn, IsPutShort, IsStop, IsQuiet, FilesStand, OutputStands, IsWriteStop, IsOrMemory, IsOrReadStop}
+use Rattle.repair_run.specs.Axioms.{AreCoherentTogether, IsFoundIn}
+use Rattle.repair_run.specs.Diagnosis.{IsDiagnosisStop}
+use Rattle.repair_run.proofs.PlanLaws.{read_ready, unbuilt_refused}
+use Rattle.repair_run.proofs.FoundLaws.{one_found_in, found_incoherent}
+use Rattle.repair_run.specs.Run.{Outcome, IsIncoherentCase, IsRepairable, summary_text, kept_count, IsDone, IsWritten, IsTorn, IsPutShort, IsStop, IsQuiet, FilesStand, OutputStands, IsWriteStop, IsOrMemory, IsOrReadStop}
 
 -- what is known where the files are told
 pub told : (o : Option Files) (P : Files → Type 0) → ((files : Files) → o ≡ Some files → P files) → IfSome o P
@@ -49,11 +55,24 @@ rose_later first before now le h = omega (arith, le, h)
 -- what was read and what is written, where the files are told
 module _ (o : Option Files) (names : FileNames) (left right : DocumentText) (table : TableText) (loaded : IsLoaded o names left right table) where
   abbrev texts : (files : Files) → o ≡ Some files → Texts files names
-  texts files e = record { left = left; right = right; table = table; ready = use_told o (λ f. plan f names ≡ Ready left right table) files e loaded }
+  texts files e = record { left = left; right = right; table = table; read = use_told o (λ f. AreRead f names left right table) files e loaded }
 
-  module _ (keep : List Bool) (inert : ℕ) (each : length keep ≡ length table.rows) (chosen : IsChosen table keep inert) (text line : List ℕ) (writes : text ≡ repaired_text table keep) (says : line ≡ summary_text (length table.rows) (kept_count keep) inert) where
+  -- how a run ends whose documents leave a class empty
+  pub diagnosis_stop : (rd rd' w w' : List ℕ → ℕ) (p q : ℕ) (s : Status) → IsDiagnosisStop left right s → IsStop o rd rd' w w' p q names s
+  diagnosis_stop rd rd' w w' p q (Status.Incoherent part iri) h = told o _ (λ files e. (texts files e, h))
+  diagnosis_stop rd rd' w w' p q Status.OutOfMemory h = tt
+  diagnosis_stop rd rd' w w' p q Status.Done h = absurd h
+  diagnosis_stop rd rd' w w' p q Status.Words h = absurd h
+  diagnosis_stop rd rd' w w' p q (Status.ReadFault file) h = absurd h
+  diagnosis_stop rd rd' w w' p q (Status.WriteFault target) h = absurd h
+  diagnosis_stop rd rd' w w' p q (Status.Unbuilt file) h = absurd h
+
+  module _ (keep : List Bool) (inert : ℕ) (each : length keep ≡ length table.rows) (chosen : IsChosen left right table keep inert) (text line : List ℕ) (writes : text ≡ repaired_text table keep) (says : line ≡ summary_text (length table.rows) (kept_count keep) inert) where
     abbrev outcome : (files : Files) → o ≡ Some files → Outcome files names
     outcome files e = record { texts = texts files e; rows = record { keep = keep; inert = inert; each_row = each; chosen = chosen } }
+
+    repairable : IsRepairable o names
+    repairable = told o _ (λ files e. (texts files e, chosen.coherent))
 
     pub done : (new : Option Files) (got_old got_new : Option (List ℕ)) → IfSome o (λ files. new ≡ Some (with_file files names.out text)) → IfSome got_old (λ got. got_new ≡ Some (got ++ line)) → IsDone o new got_old got_new names
     done new got_old got_new written put = told o _ (λ files e. (
@@ -97,8 +116,8 @@ module _ (o : Option Files) (names : FileNames) (left right : DocumentText) (tab
       write_files w v (Status.Unbuilt file) h = absurd h
 
       pub write_stop : (rd rd' w w' : List ℕ → ℕ) → w names.out ≤ writes_old → w' names.out ≡ writes_new → (s : Status) → Stops s → IsStop o rd rd' w w' p q names s
-      write_stop rd rd' w w' le e (Status.WriteFault Target.Out) h = (subst (Rose (w names.out)) (sym e) (rose_later (w names.out) writes_old writes_new le h.0), told o _ texts)
-      write_stop rd rd' w w' le e (Status.WriteFault Target.Output) h = (h.0, told o _ texts)
+      write_stop rd rd' w w' le e (Status.WriteFault Target.Out) h = (subst (Rose (w names.out)) (sym e) (rose_later (w names.out) writes_old writes_new le h.0), repairable)
+      write_stop rd rd' w w' le e (Status.WriteFault Target.Output) h = (h.0, repairable)
       write_stop rd rd' w w' le e (Status.WriteFault Target.Evidence) h = absurd h
       write_stop rd rd' w w' le e Status.OutOfMemory h = tt
       write_stop rd rd' w w' le e Status.Done h = absurd h
@@ -123,33 +142,89 @@ pub done_files : (o new : Option Files) (got_old got_new : Option (List ℕ)) (w
 done_files None new got_old got_new w v names h = tt
 done_files (Some files) new got_old got_new w v names h = (h.0, h.1)
 
--- where the plan refuses a file, a run that stops says so, or a fault of a read or want of memory came first
+-- the files have one plan at most, so a file that can't be taken excludes texts that are read, and there is one such file
 ready_refused : (role : Role) (left right : DocumentText) (table : TableText) (p : Plan) → p ≡ Ready left right table → p ≡ Refused role → ⊥
 ready_refused role left right table p e f = let h : Ready left right table ≡ Refused role = sym e ∙ f in cc
 
-same_role : (a b : Role) (p : Plan) → p ≡ Refused a → p ≡ Refused b → a ≡ b
-same_role a b p e f = let h : Refused a ≡ Refused b = sym e ∙ f in cc
+same_refused : (a b : Role) (p : Plan) → p ≡ Refused a → p ≡ Refused b → a ≡ b
+same_refused a b p e f = let h : Refused a ≡ Refused b = sym e ∙ f in cc
 
-refused_texts : (files : Files) (names : FileNames) (role : Role) → plan files names ≡ Refused role → Texts files names → ⊥
-refused_texts files names role e t = ready_refused role t.left t.right t.table (plan files names) t.ready e
+same_ready : (l l' r r' : DocumentText) (t t' : TableText) (p : Plan) → p ≡ Ready l r t → p ≡ Ready l' r' t' → (l ≡ l') × (r ≡ r')
+same_ready l l' r r' t t' p e f = let h : Ready l r t ≡ Ready l' r' t' = sym e ∙ f in (cc, cc)
 
-pub refused_stop : (files : Files) (a b c d : List ℕ → ℕ) (p q : ℕ) (names : FileNames) (role : Role) (s : Status) → plan files names ≡ Refused role → IsStop (Some files) a b c d p q names s → IsOrReadStop (Status.Unbuilt role) s
-refused_stop files a b c d p q names role (Status.ReadFault file) e h = inr (inl (file, refl))
-refused_stop files a b c d p q names role (Status.Unbuilt file) e h = inl (ap {B = Status} (λ (r : Role). Status.Unbuilt r) (same_role file role (plan files names) h e))
-refused_stop files a b c d p q names role Status.OutOfMemory e h = inr (inr refl)
-refused_stop files a b c d p q names role (Status.Incoherent part class) e h = absurd (refused_texts files names role e h)
-refused_stop files a b c d p q names role (Status.WriteFault Target.Out) e h = absurd (refused_texts files names role e h.1)
-refused_stop files a b c d p q names role (Status.WriteFault Target.Output) e h = absurd (refused_texts files names role e h.1)
-refused_stop files a b c d p q names role (Status.WriteFault Target.Evidence) e h = absurd h
-refused_stop files a b c d p q names role Status.Done e h = absurd h
-refused_stop files a b c d p q names role Status.Words e h = absurd h
+module _ (files : Files) (names : FileNames) where
+  texts_ready : (t : Texts files names) → plan files names ≡ Ready t.left t.right t.table
+  texts_ready t = read_ready files names t.left t.right t.table t.read
+
+  unbuilt_texts : (role : Role) → IsUnbuilt files names role → Texts files names → ⊥
+  unbuilt_texts role u t = ready_refused role t.left t.right t.table (plan files names) (texts_ready t) (unbuilt_refused files names role u)
+
+  same_role : (a b : Role) → IsUnbuilt files names a → IsUnbuilt files names b → a ≡ b
+  same_role a b u v = same_refused a b (plan files names) (unbuilt_refused files names a u) (unbuilt_refused files names b v)
+
+  same_documents : (t u : Texts files names) → (t.left ≡ u.left) × (t.right ≡ u.right)
+  same_documents t u = same_ready t.left u.left t.right u.right t.table u.table (plan files names) (texts_ready t) (texts_ready u)
+
+  -- where a file can't be taken, a run that stops says so, or a fault of a read or want of memory came first
+  refused_stop : (a b c d : List ℕ → ℕ) (p q : ℕ) (role : Role) (s : Status) → IsUnbuilt files names role → IsStop (Some files) a b c d p q names s → IsOrReadStop (Status.Unbuilt role) s
+  refused_stop a b c d p q role (Status.ReadFault file) u h = inr (inl (file, refl))
+  refused_stop a b c d p q role (Status.Unbuilt file) u h = inl (ap {B = Status} (λ (r : Role). Status.Unbuilt r) (same_role file role h u))
+  refused_stop a b c d p q role Status.OutOfMemory u h = inr (inr refl)
+  refused_stop a b c d p q role (Status.Incoherent part iri) u h = absurd (unbuilt_texts role u h.0)
+  refused_stop a b c d p q role (Status.WriteFault Target.Out) u h = absurd (unbuilt_texts role u h.1.0)
+  refused_stop a b c d p q role (Status.WriteFault Target.Output) u h = absurd (unbuilt_texts role u h.1.0)
+  refused_stop a b c d p q role (Status.WriteFault Target.Evidence) u h = absurd h
+  refused_stop a b c d p q role Status.Done u h = absurd h
+  refused_stop a b c d p q role Status.Words u h = absurd h
+
+  -- where the documents leave a class empty, a run that stops names the first, or a fault of a read or want of memory came first
+  same_case : (part part' : Part) (iri iri' : List ℕ) → IsIncoherentCase files names part iri → IsIncoherentCase files names part' iri' → (part ≡ part') × (iri ≡ iri')
+  same_case part part' iri iri' h k =
+      let same = same_documents h.0 k.0 in
+      one_found_in k.0.left k.0.right part part' iri iri'
+      (subst (λ (r : DocumentText). IsFoundIn k.0.left r part iri) same.1 (subst (λ (l : DocumentText). IsFoundIn l h.0.right part iri) same.0 h.1)) k.1
+
+  no_repair : (part : Part) (iri : List ℕ) → IsIncoherentCase files names part iri → (t : Texts files names) → AreCoherentTogether t.left t.right → ⊥
+  no_repair part iri h t coherent =
+      let same = same_documents h.0 t in
+      found_incoherent t.left t.right part iri
+      (subst (λ (r : DocumentText). IsFoundIn t.left r part iri) same.1 (subst (λ (l : DocumentText). IsFoundIn l h.0.right part iri) same.0 h.1)) coherent
+
+  incoherent_stop : (a b c d : List ℕ → ℕ) (p q : ℕ) (part : Part) (iri : List ℕ) (s : Status) → IsIncoherentCase files names part iri → IsStop (Some files) a b c d p q names s → IsOrReadStop (Status.Incoherent part iri) s
+  incoherent_stop a b c d p q part iri (Status.ReadFault file) u h = inr (inl (file, refl))
+  incoherent_stop a b c d p q part iri (Status.Unbuilt file) u h = absurd (unbuilt_texts file h u.0)
+  incoherent_stop a b c d p q part iri Status.OutOfMemory u h = inr (inr refl)
+  incoherent_stop a b c d p q part iri (Status.Incoherent part' iri') u h =
+      let same = same_case part' part iri' iri h u in
+      inl (ap {B = Status} (λ (r : Part). Status.Incoherent r iri') same.0 ∙ ap {B = Status} (λ (i : List ℕ). Status.Incoherent part i) same.1)
+  incoherent_stop a b c d p q part iri (Status.WriteFault Target.Out) u h = absurd (no_repair part iri u h.1.0 h.1.1)
+  incoherent_stop a b c d p q part iri (Status.WriteFault Target.Output) u h = absurd (no_repair part iri u h.1.0 h.1.1)
+  incoherent_stop a b c d p q part iri (Status.WriteFault Target.Evidence) u h = absurd h
+  incoherent_stop a b c d p q part iri Status.Done u h = absurd h
+  incoherent_stop a b c d p q part iri Status.Words u h = absurd h
 
 or_memory : (answer s s' : Status) → IsOrMemory s s' → IsOrReadStop answer s → IsOrReadStop answer s'
 or_memory answer s s' m h = ⊎_elim (λ e. subst (IsOrReadStop answer) (sym e) h) (λ e. inr (inr e)) m
 
-pub unbuilt_answer : (o : Option Files) (a b c d : List ℕ → ℕ) (p q : ℕ) (names : FileNames) (role : Role) (s s' : Status) → IsStop o a b c d p q names s → IsOrMemory s s' → IfSome o (λ files. plan files names ≡ Refused role → IsOrReadStop (Status.Unbuilt role) s')
+pub unbuilt_answer : (o : Option Files) (a b c d : List ℕ → ℕ) (p q : ℕ) (names : FileNames) (role : Role) (s s' : Status) → IsStop o a b c d p q names s → IsOrMemory s s' →
+    IfSome o (λ files. IsUnbuilt files names role → IsOrReadStop (Status.Unbuilt role) s')
 unbuilt_answer None a b c d p q names role s s' h m = tt
-unbuilt_answer (Some files) a b c d p q names role s s' h m = λ e. or_memory (Status.Unbuilt role) s s' m (refused_stop files a b c d p q names role s e h)
+unbuilt_answer (Some files) a b c d p q names role s s' h m = λ u. or_memory (Status.Unbuilt role) s s' m (refused_stop files names a b c d p q role s u h)
+
+pub incoherent_answer : (o : Option Files) (a b c d : List ℕ → ℕ) (p q : ℕ) (names : FileNames) (part : Part) (iri : List ℕ) (s s' : Status) → IsStop o a b c d p q names s → IsOrMemory s s' →
+    IfSome o (λ files. IsIncoherentCase files names part iri → IsOrReadStop (Status.Incoherent part iri) s')
+incoherent_answer None a b c d p q names part iri s s' h m = tt
+incoherent_answer (Some files) a b c d p q names part iri s s' h m = λ u. or_memory (Status.Incoherent part iri) s s' m (incoherent_stop files names a b c d p q part iri s u h)
+
+-- a run that is done has found no part incoherent and no file unbuilt
+pub done_unbuilt : (o new : Option Files) (got_old got_new : Option (List ℕ)) (names : FileNames) (role : Role) (s : Status) → IsDone o new got_old got_new names → IfSome o (λ files. IsUnbuilt files names role → IsOrReadStop (Status.Unbuilt role) s)
+done_unbuilt None new got_old got_new names role s h = tt
+done_unbuilt (Some files) new got_old got_new names role s h = λ u. absurd (unbuilt_texts files names role u h.0.texts)
+
+pub done_incoherent : (o new : Option Files) (got_old got_new : Option (List ℕ)) (names : FileNames) (part : Part) (iri : List ℕ) (s : Status) → IsDone o new got_old got_new names →
+    IfSome o (λ files. IsIncoherentCase files names part iri → IsOrReadStop (Status.Incoherent part iri) s)
+done_incoherent None new got_old got_new names part iri s h = tt
+done_incoherent (Some files) new got_old got_new names part iri s h = λ u. absurd (no_repair files names part iri u h.0.texts h.0.rows.chosen.coherent)
 
 -- the files stand after want of memory in place of another answer
 memory_files : (o new : Option Files) (a b c d : List ℕ → ℕ) (p q : ℕ) (names : FileNames) (s : Status) → IsStop o a b c d p q names s → FilesStand o new (c names.out) (d names.out) names s → FilesStand o new (c names.out) (d names.out) names Status.OutOfMemory

@@ -2,6 +2,10 @@ pub mod FirstForm
 pub mod Reading
 pub mod Status
 pub mod Words
+pub mod Texts
 pub mod Plan
+pub mod Axioms
+pub mod Stated
 pub mod Choice
+pub mod Diagnosis
 pub mod Run

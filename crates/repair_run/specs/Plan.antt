@@ -1,4 +1,4 @@
--- What a run does with its files, as far as their bytes decide it: the first refusal, or what is read.
+-- What a run does with its files, as a function of their bytes.
 use Rattle.std.specs.Prelude.{◌≡◌, ℕ, ◌≤◌, nat_le, if◌then◌else◌, List, length, Option, Some, None, IfSome, ⊤}
 use Rattle.io_edge.specs.Outside.{Files, Rose, IsLonger}
 use Rattle.io_edge.specs.declared.outside.Role.{Role}
@@ -6,12 +6,10 @@ use Rattle.repair_run.specs.declared.first_form.DocumentText.{DocumentText}
 use Rattle.repair_run.specs.declared.first_form.TableText.{TableText}
 use Rattle.repair_run.specs.declared.status.Status.{Status}
 use Rattle.repair_run.specs.Reading.{document_of, table_of}
+use Rattle.repair_run.specs.Texts.{max_bytes, AreRead, IsReached, IsUnbuilt}
 use Rattle.repair_run.specs.Words.{FileNames, name_of}
 
--- a file is at most so long
-abbrev pub max_bytes : ℕ
-max_bytes = 65536
-
+-- the first file that is not there, the first refusal, or what is read
 pub data Plan : Type 0 where
   Missing : Role → Plan
   Refused : Role → Plan
@@ -47,24 +45,13 @@ IsReadStop told before now name role (Status.Unbuilt file) = (file ≡ role) × 
 IsReadStop told before now name role Status.OutOfMemory = ⊤
 IsReadStop told before now name role _ = ⊥
 
--- the file is there and not too long
-abbrev pub IsShort : Option (List ℕ) → Type 0
-IsShort None = ⊥
-IsShort (Some bytes) = length bytes ≤ max_bytes
-
--- the files that are read before this one were read
-abbrev pub IsReached : Files → FileNames → Role → Type 0
-IsReached files names Role.Left = ⊤
-IsReached files names Role.Right = IsShort (files names.left)
-IsReached files names _ = IsShort (files names.left) × IsShort (files names.right)
-
 -- the plan hangs on these three texts
 abbrev pub IsPlanOf : Option Files → FileNames → List ℕ → List ℕ → List ℕ → Type 0
 IsPlanOf told names left right map = IfSome told (λ files. plan files names ≡ plan_of_texts left right map)
 
--- the three files are as the plan says
+-- the three files were read
 abbrev pub IsLoaded : Option Files → FileNames → DocumentText → DocumentText → TableText → Type 0
-IsLoaded told names left right table = IfSome told (λ files. plan files names ≡ Ready left right table)
+IsLoaded told names left right table = IfSome told (λ files. AreRead files names left right table)
 
 -- why a text was not taken
 abbrev pub IsTextStop : List ℕ → List ℕ → List ℕ → Status → Type 0
@@ -72,9 +59,16 @@ IsTextStop left right map (Status.Unbuilt file) = plan_of_texts left right map �
 IsTextStop left right map Status.OutOfMemory = ⊤
 IsTextStop left right map _ = ⊥
 
+-- why the three files were not all read
+abbrev pub IsTextsStop : Option Files → (List ℕ → ℕ) → (List ℕ → ℕ) → FileNames → Status → Type 0
+IsTextsStop told before now names (Status.ReadFault file) = Rose (before (name_of names file)) (now (name_of names file)) × IfSome told (λ files. IsReached files names file)
+IsTextsStop told before now names (Status.Unbuilt file) = IfSome told (λ files. plan files names ≡ Refused file)
+IsTextsStop told before now names Status.OutOfMemory = ⊤
+IsTextsStop told before now names _ = ⊥
+
 -- why the three files were not all read and taken: a fault counts for the file that was to be read
 abbrev pub IsLoadStop : Option Files → (List ℕ → ℕ) → (List ℕ → ℕ) → FileNames → Status → Type 0
 IsLoadStop told before now names (Status.ReadFault file) = Rose (before (name_of names file)) (now (name_of names file)) × IfSome told (λ files. IsReached files names file)
-IsLoadStop told before now names (Status.Unbuilt file) = IfSome told (λ files. plan files names ≡ Refused file)
+IsLoadStop told before now names (Status.Unbuilt file) = IfSome told (λ files. IsUnbuilt files names file)
 IsLoadStop told before now names Status.OutOfMemory = ⊤
 IsLoadStop told before now names _ = ⊥

@@ -3,14 +3,16 @@ use Rattle.std.specs.Prelude.{◌≡◌, ◌⊎◌, ℕ, ◌-◌, Bool, List, �
 use Rattle.io_edge.specs.Outside.{Files, Rose, with_file}
 use Rattle.io_edge.specs.declared.outside.Role.{Role}
 use Rattle.io_edge.specs.declared.outside.Target.TheVariants as Target
+use Rattle.el_logic.specs.declared.types.Part.{Part}
 use Rattle.repair_run.specs.declared.first_form.DocumentText.{DocumentText}
 use Rattle.repair_run.specs.declared.first_form.TableText.{TableText}
 use Rattle.repair_run.specs.declared.status.Status.{Status}
 use Rattle.repair_run.specs.FirstForm.{repaired_text}
 use Rattle.repair_run.specs.Status.{refusal_line}
+use Rattle.repair_run.specs.Axioms.{AreCoherentTogether, IsFoundIn}
 use Rattle.repair_run.specs.Choice.{IsChosen}
+use Rattle.repair_run.specs.Texts.{Texts, IsReached, IsUnbuilt}
 use Rattle.repair_run.specs.Words.{FileNames, name_of}
-use Rattle.repair_run.specs.Plan.{Refused, Ready, plan, IsReached}
 
 -- the summary: how many rows there are, are kept, are removed and are inert, and that no axiom was omitted
 abbrev pub summary_text : ℕ → ℕ → ℕ → List ℕ
@@ -20,19 +22,12 @@ summary_text rows kept inert =
 abbrev pub kept_count : List Bool → ℕ
 kept_count keep = count_by (λ k. k) keep
 
--- what is read of the files, where nothing is refused
-pub record Texts (files : Files) (names : FileNames) : Type 0 where
-  pub left : DocumentText
-  pub right : DocumentText
-  pub table : TableText
-  pub ready : plan files names ≡ Ready left right table
-
 -- the rows to keep, row by row, and how many rows are inert
 pub record Kept (left right : DocumentText) (table : TableText) : Type 0 where
   pub keep : List Bool
   pub inert : ℕ
   pub each_row : length keep ≡ length table.rows
-  pub chosen : IsChosen table keep inert
+  pub chosen : IsChosen left right table keep inert
 
 -- what is read, and what is kept of it
 pub record Outcome (files : Files) (names : FileNames) : Type 0 where
@@ -73,18 +68,22 @@ abbrev pub IsPutShort : Option Files → Option (List ℕ) → Option (List ℕ)
 IsPutShort old got_old got_new names = IfSome old (λ files.
     (o : Outcome files names) × IfSome got_old (λ got. (count : ℕ) × (got_new ≡ Some (got ++ take count (summary_of o)))))
 
--- the texts were read and are of the first form
-abbrev pub IsReady : Option Files → FileNames → Type 0
-IsReady told names = IfSome told (λ files. Texts files names)
+-- the files are of the first form, and this is the first part of the documents that leaves a class empty, and the first such class
+abbrev pub IsIncoherentCase : Files → FileNames → Part → List ℕ → Type 0
+IsIncoherentCase files names part iri = (t : Texts files names) × IsFoundIn t.left t.right part iri
+
+-- the files are of the first form, and the documents leave no class empty
+abbrev pub IsRepairable : Option Files → FileNames → Type 0
+IsRepairable told names = IfSome told (λ files. (t : Texts files names) × AreCoherentTogether t.left t.right)
 
 -- why a run stops short of being done
 abbrev pub IsStop : Option Files → (List ℕ → ℕ) → (List ℕ → ℕ) → (List ℕ → ℕ) → (List ℕ → ℕ) → ℕ → ℕ → FileNames → Status → Type 0
 IsStop told reads_old reads_new writes_old writes_new puts_old puts_new names (Status.ReadFault file) =
     Rose (reads_old (name_of names file)) (reads_new (name_of names file)) × IfSome told (λ files. IsReached files names file)
-IsStop told reads_old reads_new writes_old writes_new puts_old puts_new names (Status.Unbuilt file) = IfSome told (λ files. plan files names ≡ Refused file)
-IsStop told reads_old reads_new writes_old writes_new puts_old puts_new names (Status.Incoherent part class) = IsReady told names
-IsStop told reads_old reads_new writes_old writes_new puts_old puts_new names (Status.WriteFault Target.Out) = Rose (writes_old names.out) (writes_new names.out) × IsReady told names
-IsStop told reads_old reads_new writes_old writes_new puts_old puts_new names (Status.WriteFault Target.Output) = Rose puts_old puts_new × IsReady told names
+IsStop told reads_old reads_new writes_old writes_new puts_old puts_new names (Status.Unbuilt file) = IfSome told (λ files. IsUnbuilt files names file)
+IsStop told reads_old reads_new writes_old writes_new puts_old puts_new names (Status.Incoherent part iri) = IfSome told (λ files. IsIncoherentCase files names part iri)
+IsStop told reads_old reads_new writes_old writes_new puts_old puts_new names (Status.WriteFault Target.Out) = Rose (writes_old names.out) (writes_new names.out) × IsRepairable told names
+IsStop told reads_old reads_new writes_old writes_new puts_old puts_new names (Status.WriteFault Target.Output) = Rose puts_old puts_new × IsRepairable told names
 IsStop told reads_old reads_new writes_old writes_new puts_old puts_new names (Status.WriteFault Target.Evidence) = ⊥
 IsStop told reads_old reads_new writes_old writes_new puts_old puts_new names Status.OutOfMemory = ⊤
 IsStop told reads_old reads_new writes_old writes_new puts_old puts_new names Status.Done = ⊥
@@ -125,9 +124,3 @@ IsWriteStop old new writes_old writes_new got_old got_new puts_old puts_new name
 IsWriteStop old new writes_old writes_new got_old got_new puts_old puts_new name text line Status.OutOfMemory =
     ((new ≡ old) ⊎ IfSome old (λ files. new ≡ Some (with_file files name text))) × (got_new ≡ got_old)
 IsWriteStop old new writes_old writes_new got_old got_new puts_old puts_new name text line _ = ⊥
-
--- what a diagnosis may answer in place of the rows to keep
-abbrev pub IsDiagnosisStop : Status → Type 0
-IsDiagnosisStop (Status.Incoherent part class) = ⊤
-IsDiagnosisStop Status.OutOfMemory = ⊤
-IsDiagnosisStop _ = ⊥

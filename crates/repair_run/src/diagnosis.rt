@@ -1,11 +1,14 @@
 //! The rows to keep.
-ghost use Rattle.std.specs.Prelude.{◌≡◌, ◌<◌, ◌^◌, length, map, All, IfOk, IfErr, OnOk};
+ghost use Rattle.std.specs.Prelude.{◌≡◌, ◌<◌, ◌^◌, ◌++◌, ◌↔◌, ◌==◌, length, map, All, IfOk, IfErr, IsTrue, OnOk};
 ghost use Rattle.conflict_logic.specs.Order.{IsRanking};
 ghost use Rattle.plain_logic.specs.Plain.{NamesBelow, RowBelow, row_at};
 ghost use Rattle.plain_logic.specs.Theory.{AreCoherent};
-ghost use Rattle.repair_run.specs.Choice.{confidences_of, rows_at, rows_of, inert_count, is_inert, AreMarked, IsChosen};
+ghost use Rattle.repair_run.specs.Axioms.{row_axioms};
+ghost use Rattle.repair_run.specs.Choice.{confidences_of, rows_at, AreMarked, IsChosen, IsChosenOver};
+ghost use Rattle.repair_run.specs.Diagnosis.{IsAxiomStop, IsDiagnosisStop, IsPartStop};
 ghost use Rattle.repair_run.specs.FirstForm.{AreOfForm};
-ghost use Rattle.repair_run.specs.Run.{kept_count, IsDiagnosisStop};
+ghost use Rattle.repair_run.specs.Run.{kept_count};
+ghost use Rattle.repair_run.specs.Stated.{silent_count, stated_all, stated_by};
 
 use crate::first_form::{DocumentText, RowText, TableText};
 use crate::plain::{plain_axioms, plain_row};
@@ -62,7 +65,7 @@ fn check_part(
 ) -> Result<(), Status>
     requires { All (NamesBelow (length names.now.names)) axioms.now }
     ensures coherent { OnOk result (AreCoherent (length names.now.names) axioms.now) }
-    ensures err { IfErr result IsDiagnosisStop }
+    ensures err { IfErr result (IsPartStop names.now.names part (stated_all axioms.now)) }
 {
     let theory = Theory::of(alloc, names.len(), axioms)?;
     let Some(class) = theory.first_empty(alloc, names.len())? else {
@@ -82,14 +85,24 @@ fn coherent_axioms(
     requires left { All (NamesBelow (length names.now.names)) left.items }
     requires right { All (NamesBelow (length names.now.names)) right.now }
     ensures names { IfOk result (λ both. All (NamesBelow (length names.now.names)) both.items) }
+    ensures both { IfOk result (λ both. both.items ≡ left.items ++ right.now) }
     ensures coherent { IfOk result (λ both. AreCoherent (length names.now.names) both.items) }
-    ensures err { IfErr result IsDiagnosisStop }
+    ensures err { IfErr result (IsAxiomStop names.now.names (stated_all left.items) (stated_all right.now)) }
 {
-    check_part(alloc, names, Part::Left, left.as_slice())?;
-    check_part(alloc, names, Part::Right, right)?;
+    match check_part(alloc, names, Part::Left, left.as_slice()) {
+        Ok(()) => {}
+        Err(status) => return Err(status),
+    }
+    match check_part(alloc, names, Part::Right, right) {
+        Ok(()) => {}
+        Err(status) => return Err(status),
+    }
     let mut both = left;
     both.extend_from_slice(right)?;
-    check_part(alloc, names, Part::Both, both.as_slice())?;
+    match check_part(alloc, names, Part::Both, both.as_slice()) {
+        Ok(()) => {}
+        Err(status) => return Err(status),
+    }
     Ok(both)
 }
 
@@ -100,7 +113,7 @@ fn plain_rows(
     table: &TableText,
 ) -> Result<Vec<PlainRow>, AllocError>
     ensures below { IfOk result (λ rows. All (RowBelow (length names.now.names)) rows.items) }
-    ensures rows { IfOk result (λ rows. rows.items ≡ rows_of names.now.names table.now) }
+    ensures rows { IfOk result (λ rows. map stated_by rows.items ≡ map (row_axioms names.now.names table.now) table.now.rows) }
 {
     let mut rows = Vec::with_capacity(alloc, table.rows.len())?;
     for row in table.rows.as_slice() {
@@ -122,13 +135,13 @@ fn ranked(alloc: Global, rows: &[PlainRow], order: &[u32]) -> Result<Vec<PlainRo
 }
 
 fn is_inert(row: &PlainRow) -> bool
-    ensures { result ≡ is_inert row.now }
+    ensures { IsTrue result ↔ (length (stated_by row.now) ≡ 0) }
 {
     matches!(row, PlainRow::Inert)
 }
 
 fn inert_count(rows: &[PlainRow]) -> usize
-    ensures { result ≡ inert_count rows.now }
+    ensures { result ≡ silent_count rows.now }
 {
     rows.iter().filter(|row| is_inert(row)).count()
 }
@@ -164,7 +177,7 @@ fn chosen(
     requires names { All (NamesBelow (length names.now.names)) base.items }
     requires coherent { AreCoherent (length names.now.names) base.items }
     ensures each { IfOk result (λ d. length d.keep.items ≡ length table.now.rows) }
-    ensures chosen { IfOk result (λ d. IsChosen table.now d.keep.items d.inert) }
+    ensures chosen { IfOk result (λ d. IsChosenOver names.now.names (stated_all base.items) table.now d.keep.items d.inert) }
     ensures kept { IfOk result (λ d. d.kept ≡ kept_count d.keep.items) }
 {
     let texts = table.rows.as_slice();
@@ -194,9 +207,9 @@ pub fn diagnose(
 ) -> Result<Diagnosis, Status>
     requires { AreOfForm left.now right.now table.now }
     ensures each { IfOk result (λ d. length d.keep.items ≡ length table.now.rows) }
-    ensures chosen { IfOk result (λ d. IsChosen table.now d.keep.items d.inert) }
+    ensures chosen { IfOk result (λ d. IsChosen left.now right.now table.now d.keep.items d.inert) }
     ensures kept { IfOk result (λ d. d.kept ≡ kept_count d.keep.items) }
-    ensures err { IfErr result IsDiagnosisStop }
+    ensures err { IfErr result (IsDiagnosisStop left.now right.now) }
 {
     let mut names = NameTable::new(alloc, u32::MAX);
     let left = plain_axioms(alloc, &mut names, left)?;

@@ -3,7 +3,7 @@ ghost use Rattle.std.specs.Prelude.{◌≡◌, IfOk, IfErr};
 ghost use Rattle.io_edge.specs.Outside.{NeverFall};
 ghost use Rattle.repair_run.specs.FirstForm.{AreOfForm};
 ghost use Rattle.repair_run.specs.Words.{file_names};
-ghost use Rattle.repair_run.specs.Plan.{IsRead, IsReadStop, IsPlanOf, IsLoaded, IsTextStop, IsLoadStop, plan_of_texts, Ready};
+ghost use Rattle.repair_run.specs.Plan.{IsRead, IsReadStop, IsPlanOf, IsLoaded, IsTextStop, IsTextsStop, IsLoadStop, plan_of_texts, Ready};
 
 use crate::documents::read_document;
 use crate::first_form::{DocumentText, TableText};
@@ -63,7 +63,7 @@ fn read_texts<F: Folder>(
     ensures reads { NeverFall (F.read_faults folder.old) (F.read_faults folder.new) }
     ensures writes { NeverFall (F.write_faults folder.old) (F.write_faults folder.new) }
     ensures ok { IfOk result (λ t. IsPlanOf (F.files folder.old) (file_names names.now.left.now names.now.right.now names.now.map.now names.now.out.now) t.left t.right t.map) }
-    ensures err { IfErr result (IsLoadStop (F.files folder.old) (F.read_faults folder.old) (F.read_faults folder.new) (file_names names.now.left.now names.now.right.now names.now.map.now names.now.out.now)) }
+    ensures err { IfErr result (IsTextsStop (F.files folder.old) (F.read_faults folder.old) (F.read_faults folder.new) (file_names names.now.left.now names.now.right.now names.now.map.now names.now.out.now)) }
 {
     let left = read_file(alloc, folder, names.left, Role::Left)?;
     let right = read_file(alloc, folder, names.right, Role::Right)?;
@@ -102,7 +102,10 @@ pub fn load<F: Folder>(
     ensures forms { IfOk result (λ l. AreOfForm l.left l.right l.table) }
     ensures err { IfErr result (IsLoadStop (F.files folder.old) (F.read_faults folder.old) (F.read_faults folder.new) (file_names names.now.left.now names.now.right.now names.now.map.now names.now.out.now)) }
 {
-    let texts = read_texts(alloc, folder, names)?;
+    let texts = match read_texts(alloc, folder, names) {
+        Ok(texts) => texts,
+        Err(status) => return Err(status),
+    };
     match take_texts(alloc, &texts) {
         Ok(loaded) => Ok(loaded),
         Err(status) => Err(status),

@@ -1,9 +1,10 @@
 //! Documents and rows over numbered class names.
-ghost use Rattle.std.specs.Prelude.{◌≡◌, ◌<◌, ◌≤◌, ◌++◌, length, IfOk, IfSome, IsTrue, IsUtf8, All};
+ghost use Rattle.std.specs.Prelude.{◌≡◌, ◌<◌, ◌≤◌, ◌++◌, ℕ, List, length, IfOk, OnOk, IfSome, IsTrue, IsUtf8, All};
 ghost use Rattle.plain_logic.specs.Plain.{NamesBelow, RowBelow};
-ghost use Rattle.text_names.specs.Names.{number_of};
-ghost use Rattle.repair_run.specs.Choice.{full_name, row_of};
+ghost use Rattle.text_names.specs.Names.{number_of, number_or_next, with_name};
+ghost use Rattle.repair_run.specs.Axioms.{axioms_in, axioms_of, full_name, iris_in, iris_of, row_axioms, with_names};
 ghost use Rattle.repair_run.specs.FirstForm.{is_name, is_iri, IsAxiomText};
+ghost use Rattle.repair_run.specs.Stated.{stated, stated_all, stated_by};
 
 use crate::first_form::{AxiomText, Curie, DocumentText, Predicate, RowText, TableText};
 use el_logic::Side;
@@ -20,15 +21,21 @@ fn full_name(alloc: Global, iri: &[u8], name: &[u8]) -> Result<Vec<u8>, AllocErr
     Ok(full)
 }
 
-// The number of a class name. The table has room for more names than a document has bytes.
+// The number of a class name, which it keeps whatever names come later. The table has room for more names than a
+// document has bytes.
 fn number(alloc: Global, names: &mut NameTable, iri: &[u8], name: &[u8]) -> Result<u32, AllocError>
     requires iri { IsTrue (is_iri iri.now) }
     requires name { IsTrue (is_name name.now) }
+    ensures number { IfOk result (λ number. (later : List (List ℕ)) → number_or_next (names.new.names ++ later) (iri.now ++ name.now) ≡ number) }
+    ensures names { OnOk result (names.new.names ≡ with_name names.old.names (iri.now ++ name.now)) }
     ensures below { IfOk result (λ number. number < length names.new.names) }
     ensures grown { length names.old.names ≤ length names.new.names }
 {
     let full = full_name(alloc, iri, name)?;
-    names.number(full.as_slice()).map_err(|_| AllocError)
+    match names.number(full.as_slice()) {
+        Ok(number) => Ok(number),
+        Err(_) => Err(AllocError),
+    }
 }
 
 // The axiom that an axiom text stands for; a declaration numbers its class and says no more.
@@ -40,6 +47,8 @@ fn plain_axiom(
 ) -> Result<Option<PlainAxiom>, AllocError>
     requires iri { IsTrue (is_iri iri.now) }
     requires text { IsAxiomText text.now }
+    ensures axioms { IfOk result (λ found. (later : List (List ℕ)) → axioms_of (names.new.names ++ later) iri.now text.now ≡ stated found) }
+    ensures names { OnOk result (names.new.names ≡ with_names names.old.names (iris_of iri.now text.now)) }
     ensures below { IfOk result (λ found. IfSome found (NamesBelow (length names.new.names))) }
     ensures grown { length names.old.names ≤ length names.new.names }
 {
@@ -61,6 +70,18 @@ fn plain_axiom(
     }
 }
 
+// Puts an axiom behind the others, if there is one.
+fn push_found(axioms: &mut Vec<PlainAxiom>, found: Option<PlainAxiom>) -> Result<(), AllocError>
+    ensures stated { OnOk result (stated_all axioms.new.items ≡ stated_all axioms.old.items ++ stated found) }
+    ensures below { (classes : ℕ) → All (NamesBelow classes) axioms.old.items → IfSome found (NamesBelow classes) → OnOk result (All (NamesBelow classes) axioms.new.items) }
+{
+    let Some(axiom) = found else {
+        return Ok(());
+    };
+    axioms.push(axiom)?;
+    Ok(())
+}
+
 /// The axioms of a document. Its class names get their numbers in order of first occurrence.
 pub fn plain_axioms(
     alloc: Global,
@@ -69,15 +90,16 @@ pub fn plain_axioms(
 ) -> Result<Vec<PlainAxiom>, AllocError>
     requires iri { IsTrue (is_iri document.now.iri) }
     requires axioms { All IsAxiomText document.now.axioms }
+    ensures axioms { IfOk result (λ axioms. (later : List (List ℕ)) → axioms_in (names.new.names ++ later) document.now ≡ stated_all axioms.items) }
+    ensures names { OnOk result (names.new.names ≡ with_names names.old.names (iris_in document.now)) }
     ensures below { IfOk result (λ axioms. All (NamesBelow (length names.new.names)) axioms.items) }
     ensures grown { length names.old.names ≤ length names.new.names }
 {
     let iri = document.iri.as_slice();
     let mut axioms = Vec::new(alloc);
     for text in document.axioms.as_slice() {
-        if let Some(axiom) = plain_axiom(alloc, names, iri, text)? {
-            axioms.push(axiom)?;
-        }
+        let found = plain_axiom(alloc, names, iri, text)?;
+        push_found(&mut axioms, found)?;
     }
     Ok(axioms)
 }
@@ -109,7 +131,7 @@ pub fn plain_row(
     row: &RowText,
 ) -> Result<PlainRow, AllocError>
     ensures below { IfOk result (RowBelow (length names.now.names)) }
-    ensures row { IfOk result (λ said. said ≡ row_of names.now.names table.now row.now) }
+    ensures row { IfOk result (λ said. stated_by said ≡ row_axioms names.now.names table.now row.now) }
 {
     let Some(subject) = class_of(alloc, names, table, &row.subject)? else {
         return Ok(PlainRow::Inert);

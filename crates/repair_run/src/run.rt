@@ -1,10 +1,11 @@
 //! One run of the program.
-ghost use Rattle.std.specs.Prelude.{◌≡◌, ◌≢◌, ◌≤◌, ◌++◌, ℕ, None, Some, IfErr, IfSome, OnOk, IsSomeAnd, MatchOption, length};
+ghost use Rattle.std.specs.Prelude.{◌≡◌, ◌≢◌, ◌≤◌, ◌++◌, ℕ, List, None, Some, IfErr, IfSome, OnOk, IsSomeAnd, MatchOption, length};
 ghost use Rattle.io_edge.specs.Outside.{NeverFall, Rose, with_file};
+ghost use Rattle.el_logic.specs.declared.types.Part.{Part};
 ghost use Rattle.io_edge.specs.declared.outside.Role.{Role};
 ghost use Rattle.repair_run.specs.Words.{file_names, name_of, names_given};
-ghost use Rattle.repair_run.specs.Plan.{plan, Refused, IsReached};
-ghost use Rattle.repair_run.specs.Run.{IsDone, IsStop, IsQuiet, IsReady, FilesStand, OutputStands, IsWriteStop, IsPutShort, IsOrMemory, IsOrReadStop};
+ghost use Rattle.repair_run.specs.Texts.{IsReached, IsUnbuilt};
+ghost use Rattle.repair_run.specs.Run.{IsDone, IsIncoherentCase, IsStop, IsQuiet, IsRepairable, FilesStand, OutputStands, IsWriteStop, IsPutShort, IsOrMemory, IsOrReadStop};
 
 use crate::diagnosis::diagnose;
 use crate::load::load;
@@ -120,12 +121,16 @@ pub fn repair<F: Folder, S: Sink>(
     ensures read_fault { (file : Role) → result ≡ Status.ReadFault file → IsSomeAnd (names_given words.now) (λ names. Rose (F.read_faults folder.old (name_of names file)) (F.read_faults folder.new (name_of names file)) × IfSome (F.files folder.old) (λ files. IsReached files names file)) }
 
     // The first file that is too long, else the first that is not of the first form.
-    ensures unbuilt { (file : Role) → result ≡ Status.Unbuilt file → IsSomeAnd (names_given words.now) (λ names. IfSome (F.files folder.old) (λ files. plan files names ≡ Refused file)) }
-    ensures unbuilt_answer { (file : Role) → IfSome (names_given words.now) (λ names. IfSome (F.files folder.old) (λ files. plan files names ≡ Refused file → IsOrReadStop (Status.Unbuilt file) result)) }
+    ensures unbuilt { (file : Role) → result ≡ Status.Unbuilt file → IsSomeAnd (names_given words.now) (λ names. IfSome (F.files folder.old) (λ files. IsUnbuilt files names file)) }
+    ensures unbuilt_answer { (file : Role) → IfSome (names_given words.now) (λ names. IfSome (F.files folder.old) (λ files. IsUnbuilt files names file → IsOrReadStop (Status.Unbuilt file) result)) }
 
-    // The device failed while OUT was written, or while the summary was put.
-    ensures write_fault { result ≡ Status.WriteFault Target.Out → IsSomeAnd (names_given words.now) (λ names. Rose (F.write_faults folder.old names.out) (F.write_faults folder.new names.out) × IsReady (F.files folder.old) names) }
-    ensures output_fault { result ≡ Status.WriteFault Target.Output → IsSomeAnd (names_given words.now) (λ names. Rose (S.faults out.old) (S.faults out.new) × IsReady (F.files folder.old) names × IsPutShort (F.files folder.old) (S.got out.old) (S.got out.new) names) }
+    // The first part of the documents that leaves a class empty, and the first such class.
+    ensures incoherent { (part : Part) (class : List ℕ) → result ≡ Status.Incoherent part class → IsSomeAnd (names_given words.now) (λ names. IfSome (F.files folder.old) (λ files. IsIncoherentCase files names part class)) }
+    ensures incoherent_answer { (part : Part) (class : List ℕ) → IfSome (names_given words.now) (λ names. IfSome (F.files folder.old) (λ files. IsIncoherentCase files names part class → IsOrReadStop (Status.Incoherent part class) result)) }
+
+    // The device failed while OUT was written, or while the summary was put; the documents leave no class empty.
+    ensures write_fault { result ≡ Status.WriteFault Target.Out → IsSomeAnd (names_given words.now) (λ names. Rose (F.write_faults folder.old names.out) (F.write_faults folder.new names.out) × IsRepairable (F.files folder.old) names) }
+    ensures output_fault { result ≡ Status.WriteFault Target.Output → IsSomeAnd (names_given words.now) (λ names. Rose (S.faults out.old) (S.faults out.new) × IsRepairable (F.files folder.old) names × IsPutShort (F.files folder.old) (S.got out.old) (S.got out.new) names) }
 
     ensures done { result ≡ Status.Done → IsSomeAnd (names_given words.now) (IsDone (F.files folder.old) (F.files folder.new) (S.got out.old) (S.got out.new)) }
 

@@ -8,7 +8,10 @@ use Rattle.plain_logic.specs.Ranks.{AreIncoherentRanks}
 use Rattle.repair_run.specs.declared.first_form.RowText.{RowText}
 use Rattle.std.specs.List.{list_all}
 use Rattle.plain_logic.specs.declared.axioms.PlainRow.{PlainRow}
-use Rattle.repair_run.specs.Choice.{confidences_of, rows_at, rows_of, row_of, inert_count, AreMarked}
+use Rattle.repair_run.specs.Axioms.{row_axioms}
+use Rattle.repair_run.specs.Choice.{confidences_of, rows_at, AreMarked}
+use Rattle.repair_run.specs.Stated.{stated_by, silent_count}
+use Rattle.repair_run.proofs.FamilyLaws.{same_family, same_count}
 use Rattle.repair_run.proofs.ChoiceLaws.{all_names_test, all_ranked_test, ranking_length, ranking_below, ranking_within, repair_within}
 use Rattle.repair_run.proofs.diagnosis.chosen.Goals as goal
 
@@ -21,7 +24,7 @@ ranked-requires c =
     let names = c.args.names.now.names in
     let texts = c.as_slice-texts.result.now in
     let order = c.in_ok-order.order.items in
-    let said : length c.as_slice-2.result.now ≡ length table.rows = ap length (c.as_slice-2.ensures.value ∙ c.in_ok-said.ensures.rows) ∙ length-map table.rows (row_of names table) in
+    let said : length c.as_slice-2.result.now ≡ length table.rows = ap length c.as_slice-2.ensures.value ∙ sym (length-map c.in_ok-said.said.items stated_by) ∙ ap length c.in_ok-said.ensures.rows ∙ length-map table.rows (row_axioms names table) in
     subst (λ (n : ℕ). All (λ (row : ℕ). row < n) c.as_slice-3.result.now) (sym said)
     (subst (All (λ (row : ℕ). row < length table.rows)) (sym c.as_slice-3.ensures.value)
     (subst (λ (n : ℕ). All (λ (row : ℕ). row < n) order) (count_of table.rows texts c.as_slice-texts.ensures) (ranking_below (confidences_of texts) order c.in_ok-order.ensures)))
@@ -69,18 +72,19 @@ returns-clause-chosen c =
     let base = c.args.base.items in
     let order = c.in_ok-order.order.items in
     let ranks = c.in_ok-ranks.ranks.items in
-    let ranked = c.in_ok-rows.ensures ∙ ap (λ (r : List PlainRow). map (row_at r) c.as_slice-3.result.now) (c.as_slice-2.ensures.value ∙ c.in_ok-said.ensures.rows) ∙ ap (map (row_at (rows_of names table))) c.as_slice-3.ensures.value in
+    let said = c.in_ok-said.said.items in
+    let ranked = c.in_ok-rows.ensures ∙ ap (λ (r : List PlainRow). map (row_at r) c.as_slice-3.result.now) c.as_slice-2.ensures.value ∙ ap (map (row_at said)) c.as_slice-3.ensures.value in
     let counted = c.in_ok-count.ensures ∙ ap length c.as_slice-texts.ensures in
     record {
-      names = names;
-      base = base;
+      coherent = c.requires.coherent;
       order = order;
       ranks = ranks;
       ranking = subst (λ (r : List RowText). IsRanking (confidences_of r) order) c.as_slice-texts.ensures c.in_ok-order.ensures;
-      repair = subst (λ (n : ℕ). IsRepair (AreIncoherentRanks n base (map (row_at (rows_of names table)) order)) (length table.rows) ranks) c.len-classes.ensures.len
+      repair = subst (λ (family : List ℕ → Type 0). IsRepair family (length table.rows) ranks) (same_family names table said order c.in_ok-said.ensures.rows base)
+          (subst (λ (n : ℕ). IsRepair (AreIncoherentRanks n base (map (row_at said) order)) (length table.rows) ranks) c.len-classes.ensures.len
           (subst (λ (r : List PlainRow). IsRepair (AreIncoherentRanks c.len-classes.result base r) (length table.rows) ranks) ranked
-          (subst (λ (n : ℕ). IsRepair (AreIncoherentRanks c.len-classes.result base c.in_ok-rows.rows.items) n ranks) counted c.in_ok-ranks.ensures));
+          (subst (λ (n : ℕ). IsRepair (AreIncoherentRanks c.len-classes.result base c.in_ok-rows.rows.items) n ranks) counted c.in_ok-ranks.ensures)));
       marked = subst (λ (o : List ℕ). AreMarked c.in_ok-keep.keep.items (rows_at o ranks)) c.as_slice-4.ensures.value
           (subst (λ (r : List ℕ). AreMarked c.in_ok-keep.keep.items (rows_at c.as_slice-4.result.now r)) c.as_slice-5.ensures.value c.in_ok-keep.ensures.marked);
-      counted = c.inert_count-inert.ensures ∙ ap inert_count (c.as_slice.ensures.value ∙ c.in_ok-said.ensures.rows);
+      counted = c.inert_count-inert.ensures ∙ ap silent_count c.as_slice.ensures.value ∙ same_count names table said order c.in_ok-said.ensures.rows;
     }

@@ -1,5 +1,5 @@
 use Rattle.repair_run.specs.Words.{file_names}
-use Rattle.repair_run.proofs.RunLaws.{done_files, unbuilt_answer, refused_files, refused_output}
+use Rattle.repair_run.proofs.RunLaws.{done_files, done_unbuilt, done_incoherent, unbuilt_answer, incoherent_answer, refused_files, refused_output}
 use Rattle.repair_run.proofs.run.repair.Goals as goal
 
 pub returns-in-Ok-clause-files : goal.returns-in-Ok-clause-files
@@ -17,6 +17,28 @@ returns-in-Err-clause-unbuilt_answer g c = λ file.
     let f = g.F.Folder in
     rw c.in-Some.ensures (unbuilt_answer (f.files c.args.folder.now) (f.read_faults c.args.folder.now) (f.read_faults c.run.new.folder) (f.write_faults c.args.folder.now) (f.write_faults c.run.new.folder)
     (g.S.Sink.faults c.args.out.now) (g.S.Sink.faults c.run.new.out) n file c.in-Err.status c.refuse-in-Err.result c.in-Err.ensures.stop c.refuse-in-Err.ensures.status)
+
+pub returns-in-Ok-clause-unbuilt_answer : goal.returns-in-Ok-clause-unbuilt_answer
+returns-in-Ok-clause-unbuilt_answer g c = λ file.
+    let s = c.in-Some.names in
+    let n = file_names s.left.now s.right.now s.map.now s.out.now in
+    let f = g.F.Folder in
+    rw c.in-Some.ensures (done_unbuilt (f.files c.args.folder.now) (f.files c.run.new.folder) (g.S.Sink.got c.args.out.now) (g.S.Sink.got c.run.new.out) n file _ c.in-Ok.ensures.done)
+
+pub returns-in-Ok-clause-incoherent_answer : goal.returns-in-Ok-clause-incoherent_answer
+returns-in-Ok-clause-incoherent_answer g c = λ part class.
+    let s = c.in-Some.names in
+    let n = file_names s.left.now s.right.now s.map.now s.out.now in
+    let f = g.F.Folder in
+    rw c.in-Some.ensures (done_incoherent (f.files c.args.folder.now) (f.files c.run.new.folder) (g.S.Sink.got c.args.out.now) (g.S.Sink.got c.run.new.out) n part class _ c.in-Ok.ensures.done)
+
+pub returns-in-Err-clause-incoherent_answer : goal.returns-in-Err-clause-incoherent_answer
+returns-in-Err-clause-incoherent_answer g c = λ part class.
+    let s = c.in-Some.names in
+    let n = file_names s.left.now s.right.now s.map.now s.out.now in
+    let f = g.F.Folder in
+    rw c.in-Some.ensures (incoherent_answer (f.files c.args.folder.now) (f.read_faults c.args.folder.now) (f.read_faults c.run.new.folder) (f.write_faults c.args.folder.now) (f.write_faults c.run.new.folder)
+    (g.S.Sink.faults c.args.out.now) (g.S.Sink.faults c.run.new.out) n part class c.in-Err.status c.refuse-in-Err.result c.in-Err.ensures.stop c.refuse-in-Err.ensures.status)
 
 pub returns-in-Err-clause-files : goal.returns-in-Err-clause-files
 returns-in-Err-clause-files g c =

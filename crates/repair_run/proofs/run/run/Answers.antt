@@ -3,7 +3,7 @@ use Rattle.io_edge.specs.Outside.{Files, with_file}
 use Rattle.repair_run.specs.FirstForm.{repaired_text}
 use Rattle.repair_run.specs.Words.{file_names}
 use Rattle.repair_run.specs.Run.{summary_text, IsWriteStop}
-use Rattle.repair_run.proofs.RunLaws.{done, write_files, write_quiet, write_stop}
+use Rattle.repair_run.proofs.RunLaws.{diagnosis_stop, done, write_files, write_quiet, write_stop}
 use Rattle.repair_run.proofs.run.run.Goals as goal
 
 pub returns-in-Ok-write_out-clause-done : goal.returns-in-Ok-write_out-clause-done
@@ -63,3 +63,11 @@ returns-clause-stop g c =
     (g.F.Folder.read_faults c.args.folder.now) (g.F.Folder.read_faults c.write_out.new.folder) (writes c.args.folder.now) (writes c.write_out.new.folder) (c.in_ok-loaded.ensures.writes n.out) refl c.in-Err-write_out.status
     (subst (λ (o : Option Files). IsWriteStop o (files c.write_out.new.folder) (writes c.load.new.folder n.out) (writes c.write_out.new.folder n.out) (g.S.Sink.got c.args.out.now) (g.S.Sink.got c.write_out.new.out) (g.S.Sink.faults c.args.out.now) (g.S.Sink.faults c.write_out.new.out) n.out c.as_slice-2.result.now c.as_bytes.result.now c.in-Err-write_out.status)
     c.in_ok-loaded.ensures.files c.in-Err-write_out.ensures.err)
+
+pub returns-in-Err-clause-stop : goal.returns-in-Err-clause-stop
+returns-in-Err-clause-stop g c =
+    let l = c.in_ok-loaded.loaded in
+    let n = file_names c.args.names.now.left.now c.args.names.now.right.now c.args.names.now.map.now c.args.names.now.out.now in
+    let f = g.F.Folder in
+    diagnosis_stop (f.files c.args.folder.now) n l.left l.right l.table c.in_ok-loaded.ensures.ok (f.read_faults c.args.folder.now) (f.read_faults c.load.new.folder) (f.write_faults c.args.folder.now) (f.write_faults c.load.new.folder)
+    (g.S.Sink.faults c.args.out.now) (g.S.Sink.faults c.args.out.now) c.in-Err.status c.in-Err.ensures.err
