@@ -17,19 +17,6 @@ use Rattle.plain_logic.specs.declared.axioms.PlainRow.{PlainRow}
 use Rattle.plain_logic.specs.Plain.{NamesBelow, RowBelow, names_below, row_below, row_at, axioms_of_row}
 use Rattle.repair_run.specs.Choice.{rows_at, AreMarked}
 
--- a name that is held has a number below the count of names
-pub number_is_below : (names : List (List ℕ)) (name : List ℕ) (number : ℕ) → number_of names name ≡ Some number → number < length names
-number_is_below names name number e = (position-Some (λ other. bytes_eq name other) names number [] e).0
-
--- one more name
-with_more : (names : List (List ℕ)) (name : List ℕ) (held : Bool) → length names ≤ length (if held then names else names ++ name ∷ [])
-with_more names name true = omega arith
-with_more names name false = omega (arith, length-append names (name ∷ []))
-
-pub no_fewer_names : {E : Type 0} (r : Result ℕ E) (old new : List (List ℕ)) (name : List ℕ) → OnOk r (new ≡ with_name old name) → OnErr r (new ≡ old) → length old ≤ length new
-no_fewer_names (Result.Ok n) old new name e f = subst (λ (names : List (List ℕ)). length old ≤ length names) (sym e) (with_more old name (is_held old name))
-no_fewer_names (Result.Err x) old new name e f = let h = ap length f in omega arith
-
 -- names stay within more classes
 pub names_stay : (n m : ℕ) (p : PlainAxiom) → n ≤ m → NamesBelow n p → NamesBelow m p
 names_stay n m (SubClass a b) le h = (omega (arith, h.0), omega (arith, h.1))
@@ -38,9 +25,6 @@ names_stay n m (Disjoint a b) le h = (omega (arith, h.0), omega (arith, h.1))
 pub all_stay : (n m : ℕ) (ps : List PlainAxiom) → n ≤ m → All (NamesBelow n) ps → All (NamesBelow m) ps
 all_stay n m [] le h = All-nil (NamesBelow m)
 all_stay n m (p ∷ ps) le h = All-cons (NamesBelow m) p ps (names_stay n m p le (All-head (NamesBelow n) p ps h)) (all_stay n m ps le (All-tail (NamesBelow n) p ps h))
-
-pub all_stay_push : (n m : ℕ) (ps : List PlainAxiom) (p : PlainAxiom) → n ≤ m → All (NamesBelow n) ps → NamesBelow m p → All (NamesBelow m) (ps ++ p ∷ [])
-all_stay_push n m ps p le h k = All-push (NamesBelow m) ps p (all_stay n m ps le h) k
 
 -- the same as tests
 pass : (a n : ℕ) → a < n → nat_lt a n ≡ true

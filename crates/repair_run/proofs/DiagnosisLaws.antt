@@ -18,16 +18,6 @@ pub stated_both : (left right both : List PlainAxiom) → both ≡ left ++ right
 stated_both left right both e = ap stated_all e ∙ map-append axiom_of left right
 
 module _ (names : List (List ℕ)) (left right : List Axiom) where
-  pub left_stop : (s : Status) → IsPartStop names Part.Left left s → IsAxiomStop names left right s
-  left_stop (Status.Incoherent part iri) h =
-      subst (λ (p : Part). IsFound names left right p iri) (sym h.0) (record { class = h.1.class; first = h.1.first; named = h.1.named })
-  left_stop Status.OutOfMemory h = tt
-  left_stop Status.Done h = absurd h
-  left_stop Status.Words h = absurd h
-  left_stop (Status.ReadFault file) h = absurd h
-  left_stop (Status.WriteFault target) h = absurd h
-  left_stop (Status.Unbuilt file) h = absurd h
-
   pub right_stop : (s : Status) → IsCoherent (length names) 0 left → IsPartStop names Part.Right right s → IsAxiomStop names left right s
   right_stop (Status.Incoherent part iri) c h =
       subst (λ (p : Part). IsFound names left right p iri) (sym h.0) (record { class = h.1.class; first = (c, h.1.first); named = h.1.named })

@@ -9,3 +9,4 @@ pub mod Stated
 pub mod Choice
 pub mod Diagnosis
 pub mod Run
+pub mod Worked

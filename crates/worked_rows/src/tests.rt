@@ -154,9 +154,10 @@ fn keeps_the_earlier_of_equals(rt: HostRuntime) -> Result<(), Fail> {
     let below_a: &[u8] = b"r:X\tskos:broadMatch\tl:A\t0.8";
     let below_b: &[u8] = b"r:X\tskos:broadMatch\tl:B\t0.8";
     let inert: &[u8] = b"r:X\tskos:broadMatch\tl:Q\t0.8";
+    let unknown: &[u8] = b"l:Q\tskos:exactMatch\tr:X\t0.8";
     let one_goes: &[u8] = b"alod: rows 2 kept 1 removed 1 inert 0 omitted 0\n";
     let half_goes: &[u8] = b"alod: rows 10 kept 5 removed 5 inert 0 omitted 0\n";
-    let inert_stays: &[u8] = b"alod: rows 3 kept 2 removed 1 inert 1 omitted 0\n";
+    let inert_stay: &[u8] = b"alod: rows 4 kept 3 removed 1 inert 2 omitted 0\n";
     let ten: [&[u8]; 10] = [
         below_b, below_a, below_a, below_b, below_a, below_b, below_b, below_a, below_b, below_a,
     ];
@@ -164,7 +165,11 @@ fn keeps_the_earlier_of_equals(rt: HostRuntime) -> Result<(), Fail> {
         (&[below_a, below_b], &[below_a], one_goes),
         (&[below_b, below_a], &[below_b], one_goes),
         (&ten, &[below_b; 5], half_goes),
-        (&[below_a, inert, below_b], &[below_a, inert], inert_stays),
+        (
+            &[below_a, inert, unknown, below_b],
+            &[below_a, inert, unknown],
+            inert_stay,
+        ),
     ];
     for (rows, kept, summary) in cases {
         keeps(&rt, alloc, disjoint, declared, rows, kept, summary)?;
@@ -270,16 +275,100 @@ fn names_the_first_empty_class(rt: HostRuntime) -> Result<(), Fail> {
         let mut folder = folder(alloc, left, right, &[])?;
         refuses(&rt, alloc, &mut folder, 5, line)?;
     }
-    let mut both = folder(alloc, b"SubClassOf(:A :B)", b"", &[])?;
-    let right = document(alloc, b"http://l/", b"DisjointClasses(:A :B)")?;
-    both.set(alloc, &text(alloc, b"RIGHT")?, right.as_slice())?;
+    Ok(())
+}
+
+// A chain of thirty subclasses whose ends are disjoint.
+fn chain(alloc: Global) -> Result<Vec<u8>, AllocError> {
+    let mut chain = Vec::new(alloc);
+    for lower in 0..30u32 {
+        let upper = lower + 1;
+        let axiom = format!(in alloc; "SubClassOf(:C{lower} :C{upper}) ")?;
+        chain.extend_from_slice(axiom.as_bytes())?;
+    }
+    chain.extend_from_slice(b"DisjointClasses(:C0 :C30)")?;
+    Ok(chain)
+}
+
+#[test]
+fn follows_a_long_chain(rt: HostRuntime) -> Result<(), Fail> {
+    let alloc = rt.alloc();
+    let chain = chain(alloc)?;
+    let mut left = folder(alloc, chain.as_slice(), b"", &[])?;
     refuses(
         &rt,
         alloc,
-        &mut both,
+        &mut left,
         5,
-        b"alod: LEFT and RIGHT incoherent: <http://l/A>\n",
+        b"alod: LEFT incoherent: <http://l/C0>\n",
     )?;
+    let mut right = folder(alloc, b"Declaration(Class(:A))", chain.as_slice(), &[])?;
+    refuses(
+        &rt,
+        alloc,
+        &mut right,
+        5,
+        b"alod: RIGHT incoherent: <http://r/C0>\n",
+    )?;
+    Ok(())
+}
+
+#[test]
+fn joins_documents_by_their_names(rt: HostRuntime) -> Result<(), Fail> {
+    let alloc = rt.alloc();
+    let cases: [(&[u8], &[u8], &[u8]); 4] = [
+        (
+            b"SubClassOf(:A :B)",
+            b"DisjointClasses(:A :B)",
+            b"alod: LEFT and RIGHT incoherent: <http://l/A>\n",
+        ),
+        (
+            b"SubClassOf(:A :B) SubClassOf(:B :A)",
+            b"DisjointClasses(:B :A)",
+            b"alod: LEFT and RIGHT incoherent: <http://l/A>\n",
+        ),
+        (
+            b"SubClassOf(:A :B)",
+            b"SubClassOf(:N :A) DisjointClasses(:B :N)",
+            b"alod: LEFT and RIGHT incoherent: <http://l/N>\n",
+        ),
+        (
+            b"Declaration(Class(:B))",
+            b"DisjointClasses(:A :A) SubClassOf(:B :A)",
+            b"alod: RIGHT incoherent: <http://l/B>\n",
+        ),
+    ];
+    for (left, right, line) in cases {
+        let mut folder = folder(alloc, left, b"", &[])?;
+        let right = document(alloc, b"http://l/", right)?;
+        folder.set(alloc, &text(alloc, b"RIGHT")?, right.as_slice())?;
+        refuses(&rt, alloc, &mut folder, 5, line)?;
+    }
+    Ok(())
+}
+
+// Both prefixes of the table stand for LEFT's names, so a row may relate two of them.
+#[test]
+fn joins_prefixes_by_their_iris(rt: HostRuntime) -> Result<(), Fail> {
+    let alloc = rt.alloc();
+    let map: &[u8] =
+        b"#curie_map:\n#  l: http://l/\n#  r: http://l/\nsubject_id\tpredicate_id\tobject_id\tconfidence\nr:C\tskos:broadMatch\tl:A\t0.9\nl:C\tskos:broadMatch\tr:B\t0.8\n";
+    let kept: &[u8] =
+        b"#curie_map:\n#  l: http://l/\n#  r: http://l/\nsubject_id\tpredicate_id\tobject_id\tconfidence\nr:C\tskos:broadMatch\tl:A\t0.9\n";
+    let mut folder = folder(
+        alloc,
+        b"DisjointClasses(:A :B) Declaration(Class(:C))",
+        b"",
+        &[],
+    )?;
+    folder.set(alloc, &text(alloc, b"MAP")?, map)?;
+    let (number, out) = run(alloc, &mut folder)?;
+    assert_eq!(rt; number, 0);
+    assert_eq!(rt;
+        out.bytes(),
+        b"alod: rows 2 kept 1 removed 1 inert 0 omitted 0\n".as_slice()
+    );
+    assert_eq!(rt; folder.file(&text(alloc, b"OUT")?).unwrap_or(b""), kept);
     Ok(())
 }
 
