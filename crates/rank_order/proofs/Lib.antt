@@ -1,0 +1,4 @@
+pub mod DigitLaws
+pub mod PowerLaws
+pub mod DecimalLaws
+pub mod ConfidenceLaws
