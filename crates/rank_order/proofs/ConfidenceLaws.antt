@@ -1,10 +1,10 @@
 -- A text's units, by the numbers that are computed with.
-use Rattle.std.proofs.Common.{◌≡◌, ◌∙◌, ℕ, ◌+◌, ◌*◌, ◌^◌, ◌≤◌, ◌<◌, Bool, true, false, List, [], ◌∷◌, ◌++◌, length, refl, ap, sym, subst, arith}
-use Rattle.std.specs.Prelude.{Option, Some, None, IfSome, IfNone}
+use Rattle.std.proofs.Common.{◌≡◌, ◌∙◌, ℕ, ◌+◌, ◌*◌, ◌^◌, Bool, List, ◌++◌, length, refl, ap, sym, subst, arith}
+use Rattle.std.specs.Prelude.{Option, Some, None}
 use Rattle.std.proofs.Math.Nat.{eq_of_mul-eq-mul_right}
 use Rattle.std.proofs.lemmas.Nat.{pow-add}
 use Rattle.rank_order.specs.declared.decimal.DecimalText.{DecimalText}
-use Rattle.rank_order.specs.Decimal.{AreDigits, IsExponent, Exponent, Decimal, number_of, fraction_digits, exponent_digits, lowers, raised_by, lowered_by, numerator, denominator, decimal_text, IsDecimal, IsConfidence}
+use Rattle.rank_order.specs.Decimal.{AreDigits, IsExponent, Exponent, Decimal, number_of, fraction_digits, exponent_digits, lowers, raised_by, lowered_by, IsDecimal, IsConfidence}
 use Rattle.rank_order.specs.Reading.{decimal_of}
 use Rattle.rank_order.specs.Parts.{HasParts, IsDecimalText}
 use Rattle.rank_order.specs.Scale.{IsScaled, joined_number, up_by, down_by}

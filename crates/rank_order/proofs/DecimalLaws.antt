@@ -1,7 +1,6 @@
 -- A text is read as a decimal number exactly where it is spelled as that number.
-use Rattle.std.proofs.Common.{◌≡◌, ◌∙◌, ℕ, ◌+◌, ◌≤◌, ◌<◌, Bool, true, false, cond, ◌&&◌, List, [], ◌∷◌, ◌++◌, length, nat_eq, refl, ap, sym, subst, arith, append-nil}
+use Rattle.std.proofs.Common.{◌≡◌, ◌∙◌, ℕ, ◌+◌, ◌≤◌, Bool, true, false, cond, ◌&&◌, List, [], ◌∷◌, ◌++◌, length, refl, ap, sym, subst, arith}
 use Rattle.std.specs.Prelude.{⊤, Option, Some, None, ◌==◌}
-use Rattle.std.specs.List.{list_all}
 use Rattle.std.proofs.lemmas.Bool.Decides.{nat_tests}
 use Rattle.rank_order.specs.Decimal.{is_digit, AreDigits, is_exponent_letter, Sign, Exponent, Decimal, sign_text, fraction_text, exponent_text, decimal_text, fraction_digits, IsExponent, IsDecimal}
 use Rattle.rank_order.specs.Reading.{front_digits, past_digits, fraction_in, past_fraction, are_digits, is_some_list, exponent_with, signed_in, exponent_in, decimal_with, decimal_of}

@@ -1,7 +1,5 @@
 -- Fronts of digits.
-use Rattle.std.proofs.Common.{◌≡◌, ◌∙◌, ℕ, ◌+◌, ◌≤◌, Bool, true, false, cond, true≢false, List, [], ◌∷◌, ◌++◌, length, take, drop, refl, ap, sym, subst, arith}
-use Rattle.std.specs.Prelude.{⊤}
-use Rattle.std.proofs.Math.Seq.{take-suc}
+use Rattle.std.proofs.Common.{◌≡◌, ℕ, ◌≤◌, Bool, true, false, cond, List, [], ◌∷◌, length, take, drop, refl, ap, arith}
 use Rattle.rank_order.specs.Decimal.{is_digit, AreDigits}
 use Rattle.rank_order.specs.Reading.{front_digits, past_digits}
 

@@ -1,6 +1,6 @@
 -- Whole numbers times powers of ten.
-use Rattle.std.proofs.Common.{◌≡◌, ◌≢◌, ◌∙◌, ◌⊎◌, inl, inr, ⊎_elim, ℕ, zero, suc, ◌+◌, ◌-◌, ◌*◌, ◌%◌, ◌^◌, ◌<◌, ◌≤◌, Bool, true, false, List, [], ◌∷◌, ◌++◌, length, get_or, drop, refl, ap, sym, subst, arith, length-append, add-one, drop-cons}
-use Rattle.std.proofs.Math.Nat.{pow-suc, one-le-pow, pow-le-pow_right, mul-le-mul_left, mul-le-mul_right, mul-le-mul, eq_of_mul-eq-mul_right, le_of_mul-le-mul_right, mul-mod_right}
+use Rattle.std.proofs.Common.{◌≡◌, ◌≢◌, ◌∙◌, ⊎_elim, ℕ, suc, ◌+◌, ◌-◌, ◌*◌, ◌%◌, ◌^◌, ◌<◌, ◌≤◌, Bool, true, false, List, [], ◌∷◌, ◌++◌, length, get_or, drop, refl, ap, sym, subst, arith, length-append, add-one, drop-cons}
+use Rattle.std.proofs.Math.Nat.{pow-suc, one-le-pow, pow-le-pow_right, mul-le-mul_left, mul-le-mul_right, eq_of_mul-eq-mul_right}
 use Rattle.std.proofs.lemmas.Bool.{cases_lt}
 use Rattle.std.proofs.lemmas.Bool.Decides.{nat_tests}
 use Rattle.std.proofs.lemmas.Nat.{pow-add}
@@ -98,8 +98,8 @@ digit_behind p d some small e = omega (arith, e)
 pub too_long : (m z d : ℕ) → 1 ≤ d → d < 10 → 10 ^ 36 < m * 10 ^ (z + 1) + d → IsTooFine (10 * (m * 10 ^ z) + d)
 too_long m z d some small long = fine_if_long (10 * (m * 10 ^ z) + d) (digit_behind (m * 10 ^ z) d some small) (omega (arith, zero_behind m z, long))
 
-pub past : (n : ℕ) → ¬ (n ≤ 10 ^ 36) → 10 ^ 36 < n
-past n above = ⊎_elim (λ (lt : 10 ^ 36 < n). lt) (λ (le : n ≤ 10 ^ 36). absurd (above le)) (cases_lt (10 ^ 36) n)
+pub below : (a b : ℕ) → ¬ (a ≤ b) → b < a
+below a b not_le = ⊎_elim (λ (lt : b < a). lt) (λ (le : a ≤ b). absurd (not_le le)) (cases_lt b a)
 
 with_both : (m z up : ℕ) → m * 10 ^ (z + up) ≡ m * 10 ^ z * 10 ^ up
 with_both m z up = ap (λ (k : ℕ). m * k) (pow-add 10 z up) ∙ omega arith
@@ -119,10 +119,14 @@ scaled_found m z up down units le most e =
 pub scaled_is : (m z up down units : ℕ) → down ≤ z + up → IsScaled (m * 10 ^ z) up down units → units ≡ m * 10 ^ (z + up - down)
 scaled_is m z up down units le scaled = units_are m units (z + up) down le (scaled.same ∙ sym (with_both m z up))
 
-pub scaled_by_zeros : (m z up down : ℕ) (r : Option ℕ) → down ≤ z + up → SomeIff r (m * 10 ^ (z + up - down) ≤ 10 ^ 36) (m * 10 ^ (z + up - down)) →
+pub scaled_by_zeros : (m z up down k : ℕ) (r : Option ℕ) → down ≤ z + up → k ≡ z + up - down → SomeIff r (m * 10 ^ k ≤ 10 ^ 36) (m * 10 ^ k) →
     IfSome r (IsScaled (m * 10 ^ z) up down) × IfNone r ((units : ℕ) → IsScaled (m * 10 ^ z) up down units → ⊥)
-scaled_by_zeros m z up down None le h = (tt, λ units scaled. h (subst (λ (k : ℕ). k ≤ 10 ^ 36) (scaled_is m z up down units le scaled) scaled.most))
-scaled_by_zeros m z up down (Some n) le h = (scaled_found m z up down n le (subst (λ (k : ℕ). k ≤ 10 ^ 36) (sym h.1) h.0) h.1, tt)
+scaled_by_zeros m z up down k r le e h = by r (subst (λ (i : ℕ). SomeIff r (m * 10 ^ i ≤ 10 ^ 36) (m * 10 ^ i)) e h)
+  where
+    by : (r : Option ℕ) → SomeIff r (m * 10 ^ (z + up - down) ≤ 10 ^ 36) (m * 10 ^ (z + up - down)) →
+        IfSome r (IsScaled (m * 10 ^ z) up down) × IfNone r ((units : ℕ) → IsScaled (m * 10 ^ z) up down units → ⊥)
+    by None not_most = (tt, λ units scaled. not_most (subst (λ (k : ℕ). k ≤ 10 ^ 36) (scaled_is m z up down units le scaled) scaled.most))
+    by (Some n) both = (scaled_found m z up down n le (subst (λ (k : ℕ). k ≤ 10 ^ 36) (sym both.1) both.0) both.1, tt)
 
 -- the digit at a place, and those behind it
 front_of : (i : ℕ) (ds : List ℕ) → i < length ds → drop i ds ≡ get_or ds i 0 ∷ drop (i + 1) ds

@@ -2,3 +2,4 @@ pub mod Decimal
 pub mod Reading
 pub mod Parts
 pub mod Scale
+pub mod Order

@@ -1,5 +1,5 @@
 -- What the code keeps of a decimal number and its exponent.
-use Rattle.std.specs.Prelude.{◌≡◌, List, ℕ, Option, Some, None, ⊤}
+use Rattle.std.specs.Prelude.{◌≡◌, Option, Some, None, ⊤}
 use Rattle.rank_order.specs.Decimal.{Exponent, Decimal, fraction_digits, exponent_digits, lowers}
 use Rattle.rank_order.specs.declared.decimal.ExponentText.{ExponentText}
 use Rattle.rank_order.specs.declared.decimal.DecimalText.{DecimalText}

@@ -1,4 +1,4 @@
-ghost use Rattle.std.specs.Prelude.{◌≡◌, ◌≤◌, ◌+◌, ◌*◌, ◌^◌, ℕ, length, IfSome, IfNone, ◌<◌};
+ghost use Rattle.std.specs.Prelude.{◌≡◌, ◌≤◌, ◌+◌, ◌^◌, ℕ, length, IfSome, IfNone, ◌<◌};
 ghost use Rattle.rank_order.specs.Decimal.{AreDigits, IsConfidence};
 ghost use Rattle.rank_order.specs.Scale.{IsScaled, IsTooFine, IsShort, value_of, joined_number, up_by, down_by};
 

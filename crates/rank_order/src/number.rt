@@ -94,11 +94,11 @@ pub fn scaled(number: Number, up: u128, down: u128) -> Option<u128>
     if number.significant == 0 {
         return Some(0);
     }
-    let zeros = number.zeros as u128 + up;
-    if zeros < down {
-        return None;
+    match (number.zeros as u128 + up).checked_sub(down) {
+        Some(zeros) => with_zeros(number.significant, zeros),
+        // A digit that is not 0 stands behind the last place of the units.
+        None => None,
     }
-    with_zeros(number.significant, zeros - down)
 }
 
 /// The number that digits stand for, where it is below 10^20.

@@ -1,6 +1,6 @@
-use Rattle.std.proofs.Common.{◌≡◌, ◌≢◌, ◌≤◌, ◌<◌, ◌+◌, ◌-◌, inr, arith}
+use Rattle.std.proofs.Common.{◌≤◌, ◌-◌, ◌^◌, inr, arith}
 use Rattle.std.proofs.lemmas.Bool.Decides.{nat_tests}
-use Rattle.rank_order.proofs.PowerLaws.{zero_behind, digit_behind, digit_below, too_long, past}
+use Rattle.rank_order.proofs.PowerLaws.{zero_behind, digit_below, too_long, below}
 use Rattle.rank_order.proofs.number.with_digit.Goals as goal
 
 pub returns-then-digit-eq48-clause-value : goal.returns-then-digit-eq48-clause-value
@@ -10,7 +10,7 @@ pub returns-in_default-clause-fine : goal.returns-in_default-clause-fine
 returns-in_default-clause-fine c =
     let small = digit_below c.args.digit c.requires.digit in
     let some : 1 ≤ c.args.digit - 48 = grind (arith, nat_tests) in
-    too_long c.args.number.significant c.args.number.zeros (c.args.digit - 48) some small (omega (arith, past _ c.in_default.ensures))
+    too_long c.args.number.significant c.args.number.zeros (c.args.digit - 48) some small (omega (arith, below _ (10 ^ 36) c.in_default.ensures))
 
 pub returns-then-significant-gt-MOST_UNITS-clause-fine : goal.returns-then-significant-gt-MOST_UNITS-clause-fine
 returns-then-significant-gt-MOST_UNITS-clause-fine c =
