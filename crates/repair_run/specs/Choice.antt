@@ -1,9 +1,9 @@
 -- Which rows are kept.
-use Rattle.std.specs.Prelude.{◌≡◌, ℕ, ◌↔◌, Bool, true, false, List, ◌++◌, length, map, slice_index, slice_index_or, count_by, Option, None, Some, Contains, IsTrue}
+use Rattle.std.specs.Prelude.{◌≡◌, ℕ, ◌*◌, ◌^◌, ◌↔◌, Bool, true, false, List, ◌++◌, length, map, slice_index, slice_index_or, count_by, Option, None, Some, Contains, IsTrue}
 use Rattle.text_names.specs.Names.{number_of}
 use Rattle.el_logic.specs.declared.types.Side.{Side}
-use Rattle.conflict_logic.specs.Order.{IsRanking}
 use Rattle.conflict_logic.specs.Repair.{IsRepair}
+use Rattle.rank_order.specs.Order.{IsRanking}
 use Rattle.plain_logic.specs.declared.axioms.PlainAxiom.{PlainAxiom}
 use Rattle.plain_logic.specs.declared.axioms.PlainRow.{PlainRow}
 use Rattle.plain_logic.specs.Ranks.{AreIncoherentRanks}
@@ -15,9 +15,12 @@ use Rattle.repair_run.specs.declared.first_form.Predicate.TheVariants.{ExactMatc
 use Rattle.repair_run.specs.declared.first_form.RowText.{RowText}
 use Rattle.repair_run.specs.declared.first_form.TableText.{TableText}
 
--- the confidences of the rows, in tenths
+-- the confidences of the rows, in units of which 10 ^ 36 are 1
+abbrev pub confidence_of : RowText → ℕ
+confidence_of row = row.tenths * 10 ^ 35
+
 abbrev pub confidences_of : List RowText → List ℕ
-confidences_of rows = map (λ row. row.tenths) rows
+confidences_of rows = map confidence_of rows
 
 -- the rows at these ranks
 abbrev pub rows_at : List ℕ → List ℕ → List ℕ
