@@ -3,5 +3,4 @@ pub mod SetLemmas
 pub mod ConflictLaws
 pub mod RepairLaws
 pub mod GreedyLaws
-pub mod OrderLaws
 pub mod WorkedLaws

@@ -1,5 +1,4 @@
 pub mod Sets
-pub mod Order
 pub mod Accused
 pub mod Repair
 pub mod Greedy

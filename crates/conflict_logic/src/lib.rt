@@ -1,8 +1,7 @@
-//! Conflicts, accused ranks, repairs and the order of ranks, for any family of incoherent sets of ranks.
+//! Conflicts, accused ranks and repairs, for any family of incoherent sets of ranks.
 #![tactic(auto)]
 
 pub mod greedy;
-pub mod order;
 pub mod repair;
 #[cfg(test)]
 mod tests;

@@ -1,11 +1,10 @@
-//! Choosing and ranking on small cases.
+//! Choosing on a small case.
 
 ghost use Rattle.std.specs.Prelude.{IsTrue, ◌↔◌};
 ghost use Rattle.std.proofs.Common.{arith, ⊎_elim, inl, inr};
 ghost use Rattle.conflict_logic.specs.Worked.{IsChained};
 
 use crate::Family;
-use crate::order::rank;
 use crate::repair::{CoherenceTest, choose};
 use std::alloc::{AllocError, Global};
 use std::test::Fail;
@@ -59,21 +58,6 @@ fn chooses_the_ends_of_a_chain(rt: HostRuntime) -> Result<(), Fail> {
         (4, [0, 2, 3].as_slice()),
     ] {
         assert_eq!(rt; choose(rt.alloc(), &Chain, count)?.as_slice(), kept);
-    }
-    Ok(())
-}
-
-#[test]
-fn ranks_the_greater_confidence_first(rt: HostRuntime) -> Result<(), Fail> {
-    for (confidences, rows) in [
-        ([9, 8, 8], [0, 1, 2]),
-        ([8, 9, 8], [1, 0, 2]),
-        ([7, 7, 9], [2, 0, 1]),
-    ] {
-        assert_eq!(rt;
-            rank(rt.alloc(), confidences.as_slice())?.as_slice(),
-            rows.as_slice()
-        );
     }
     Ok(())
 }

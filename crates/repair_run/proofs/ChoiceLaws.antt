@@ -8,8 +8,8 @@ use Rattle.std.proofs.lemmas.List.FromFn.{length-range_with_len, get_or-range_wi
 use Rattle.std.proofs.lemmas.List.{map_more, get_or-set_same, get_or-set_other, length-append}
 use Rattle.std.proofs.lemmas.List.Quantifiers.{position-Some}
 use Rattle.std.proofs.lemmas.List.Elements.{All-nil, All-cons, All-head, All-tail, All-push, All-weaker, All-contains_itself, All-from_get_or, Contains-append_left, Contains-push, Contains-push_cases}
-use Rattle.conflict_logic.specs.Order.{IsRanking}
 use Rattle.conflict_logic.specs.Repair.{IsRepair}
+use Rattle.rank_order.specs.Order.{IsRanking}
 use Rattle.text_names.specs.Names.{number_of, with_name, is_held}
 use Rattle.plain_logic.specs.declared.axioms.PlainAxiom.{PlainAxiom}
 use Rattle.plain_logic.specs.declared.axioms.PlainAxiom.TheVariants.{SubClass, Disjoint}

@@ -1,17 +1,20 @@
 -- Which rows are kept.
-use Rattle.std.specs.Prelude.{◌≡◌, ℕ, ◌↔◌, Bool, false, List, length, map, slice_index, slice_index_or, Contains, IsTrue}
+use Rattle.std.specs.Prelude.{◌≡◌, ℕ, ◌*◌, ◌^◌, ◌↔◌, Bool, false, List, length, map, slice_index, slice_index_or, Contains, IsTrue}
 use Rattle.el_logic.specs.declared.types.Axiom.{Axiom}
 use Rattle.el_logic.specs.Incoherent.{IsCoherent}
-use Rattle.conflict_logic.specs.Order.{IsRanking}
 use Rattle.conflict_logic.specs.Repair.{IsRepair}
+use Rattle.rank_order.specs.Order.{IsRanking}
 use Rattle.repair_run.specs.declared.first_form.DocumentText.{DocumentText}
 use Rattle.repair_run.specs.declared.first_form.RowText.{RowText}
 use Rattle.repair_run.specs.declared.first_form.TableText.{TableText}
 use Rattle.repair_run.specs.Axioms.{class_names, inert_count, axioms_of_both, AreIncoherentWith}
 
--- the confidences of the rows, in tenths
+-- the confidences of the rows, in units of which 10 ^ 36 are 1
+abbrev pub confidence_of : RowText → ℕ
+confidence_of row = row.tenths * 10 ^ 35
+
 abbrev pub confidences_of : List RowText → List ℕ
-confidences_of rows = map (λ row. row.tenths) rows
+confidences_of rows = map confidence_of rows
 
 -- the rows at these ranks
 abbrev pub rows_at : List ℕ → List ℕ → List ℕ

@@ -1,22 +1,22 @@
 //! The rows to keep.
 ghost use Rattle.std.specs.Prelude.{◌≡◌, ◌<◌, ◌^◌, ◌++◌, ◌↔◌, ◌==◌, length, map, All, IfOk, IfErr, IsTrue, OnOk};
-ghost use Rattle.conflict_logic.specs.Order.{IsRanking};
+ghost use Rattle.rank_order.specs.Order.{IsRanking};
 ghost use Rattle.plain_logic.specs.Plain.{NamesBelow, RowBelow, row_at};
 ghost use Rattle.plain_logic.specs.Theory.{AreCoherent};
 ghost use Rattle.repair_run.specs.Axioms.{row_axioms};
-ghost use Rattle.repair_run.specs.Choice.{confidences_of, rows_at, AreMarked, IsChosen, IsChosenOver};
+ghost use Rattle.repair_run.specs.Choice.{confidence_of, confidences_of, rows_at, AreMarked, IsChosen, IsChosenOver};
 ghost use Rattle.repair_run.specs.Diagnosis.{IsAxiomStop, IsDiagnosisStop, IsPartStop};
-ghost use Rattle.repair_run.specs.FirstForm.{AreOfForm};
+ghost use Rattle.repair_run.specs.FirstForm.{AreOfForm, IsRowText};
 ghost use Rattle.repair_run.specs.Run.{kept_count};
 ghost use Rattle.repair_run.specs.Stated.{silent_count, stated_all, stated_by};
 
 use crate::first_form::{DocumentText, RowText, TableText};
 use crate::plain::{plain_axioms, plain_row};
 use crate::status::Status;
-use conflict_logic::order::rank;
 use conflict_logic::repair::choose;
 use el_logic::Part;
 use plain_logic::{Case, PlainAxiom, PlainRow, Theory};
+use rank_order::{Confidence, Ranks, rank};
 use std::alloc::{AllocError, Global};
 use text_names::NameTable;
 
@@ -30,27 +30,41 @@ pub struct Diagnosis {
     pub inert: usize,
 }
 
-fn confidences(alloc: Global, rows: &[RowText]) -> Result<Vec<u128>, AllocError>
-    ensures { IfOk result (λ tenths. tenths.items ≡ confidences_of rows.now) }
+fn confidence(row: &RowText) -> Confidence
+    requires { IsRowText row.now }
+    ensures { result ≡ confidence_of row.now }
 {
-    rows.iter().map(|row| row.tenths as u128).collect(alloc)
+    Confidence::from_units(row.tenths as u128 * 10u128.pow(35))
 }
 
-// How many rows there are. A table whose rows need numbers of more than 32 bits is no file of the size that is read.
+fn confidences(alloc: Global, rows: &[RowText]) -> Result<Vec<Confidence>, AllocError>
+    requires { All IsRowText rows.now }
+    ensures { IfOk result (λ units. units.items ≡ confidences_of rows.now) }
+{
+    let mut confidences = Vec::with_capacity(alloc, rows.len())?;
+    for row in rows {
+        confidences.push(confidence(row))?;
+    }
+    Ok(confidences)
+}
+
+// How many rows there are. A table with 2^31 rows or more is no file of the size that is read.
 fn row_count(rows: &[RowText]) -> Result<u32, AllocError>
-    ensures { IfOk result (λ count. count ≡ length rows.now) }
+    ensures count { IfOk result (λ count. count ≡ length rows.now) }
+    ensures few { OnOk result (length rows.now < 2 ^ 31) }
 {
     let count = rows.len();
-    if count > u32::MAX as usize {
+    if count >= 1 << 31 {
         return Err(AllocError);
     }
     Ok(count as u32)
 }
 
 // The rows in the order of their ranks.
-fn ranking(alloc: Global, rows: &[RowText]) -> Result<Vec<u32>, AllocError>
-    requires { length rows.now < 2 ^ 32 }
-    ensures { IfOk result (λ order. IsRanking (confidences_of rows.now) order.items) }
+fn ranking(alloc: Global, rows: &[RowText]) -> Result<Ranks, AllocError>
+    requires few { length rows.now < 2 ^ 31 }
+    requires form { All IsRowText rows.now }
+    ensures { IfOk result (λ order. IsRanking (confidences_of rows.now) order) }
 {
     let confidences = confidences(alloc, rows)?;
     rank(alloc, confidences.as_slice())
@@ -176,6 +190,7 @@ fn chosen(
 ) -> Result<Diagnosis, AllocError>
     requires names { All (NamesBelow (length names.now.names)) base.items }
     requires coherent { AreCoherent (length names.now.names) base.items }
+    requires form { All IsRowText table.now.rows }
     ensures each { IfOk result (λ d. length d.keep.items ≡ length table.now.rows) }
     ensures chosen { IfOk result (λ d. IsChosenOver names.now.names (stated_all base.items) table.now d.keep.items d.inert) }
     ensures kept { IfOk result (λ d. d.kept ≡ kept_count d.keep.items) }

@@ -1,8 +1,8 @@
 -- Rows in the order of their confidence.
-use Rattle.std.proofs.Common.{◌≡◌, ◌≢◌, ◌⊎◌, ℕ, zero, suc, ◌<◌, ◌≤◌, ◌+◌, Bool, true, false, cond, List, [], ◌∷◌, length, get_or, slice_index, ⊎_elim, inl, inr, subst, sym, ap, ◌∙◌, nat_eq, zero-add, arith}
+use Rattle.std.proofs.Common.{◌≡◌, ◌≢◌, true≢false, ℕ, zero, suc, ◌<◌, ◌≤◌, ◌+◌, Bool, true, false, cond, List, [], ◌∷◌, length, get_or, slice_index, ⊎_elim, inl, inr, subst, sym, ap, ◌∙◌, nat_eq, zero-add, arith}
 use Rattle.std.specs.List.{range_with_len, count_by, IsDistinct}
 use Rattle.std.specs.List.Sorted.{IsPermutation, IsSortedBy}
-use Rattle.std.specs.Ordering.{is_lt, nat_cmp, ordering_then}
+use Rattle.std.specs.Cmp.{IsStrictWeakOrder}
 use Rattle.std.proofs.lemmas.Bool.{cases_lt, cases_eq, eqb-false, ne_eqb}
 use Rattle.std.proofs.lemmas.List.FromFn.{length-range_with_len, get_or-range_with_len}
 use Rattle.std.proofs.lemmas.Grind.{get_or_default_zero}
@@ -10,24 +10,25 @@ use Rattle.std.proofs.lemmas.Bool.Decides.{nat_tests}
 use Rattle.std.proofs.lemmas.List.Sums.{sum_by-cons}
 use Rattle.std.proofs.lemmas.List.Sorted.{sum_by-IsPermutation, Contains-permutation}
 use Rattle.std.proofs.lemmas.Map.Keys.{IsDistinct-from_apart, IsDistinct-IsPermutation, apart_from_distinct}
-use Rattle.conflict_logic.specs.Order.{IsBefore, is_before, rank_of, IsRanking}
+use Rattle.rank_order.specs.declared.order.RankKey.{RankKey}
+use Rattle.rank_order.specs.Order.{IsBefore, is_before, key_at, rank_of, IsRanking}
 
-IsBefore-trans : (confidences : List ℕ) (a b c : ℕ) → IsBefore confidences a b → IsBefore confidences b c → IsBefore confidences a c
-IsBefore-trans confidences a b c first second =
+IsBefore-trans : (a b c : RankKey) → IsBefore a b → IsBefore b c → IsBefore a c
+IsBefore-trans a b c first second =
     ⊎_elim
     (λ greater. inl (⊎_elim (λ more. omega arith) (λ tie. omega arith) second))
     (λ tie. ⊎_elim (λ more. inl (omega arith)) (λ tie_too. inr (omega arith, omega arith)) second)
     first
 
-IsBefore-one_way : (confidences : List ℕ) (a b : ℕ) → IsBefore confidences a b → ¬ (IsBefore confidences b a)
-IsBefore-one_way confidences a b first second =
+IsBefore-one_way : (a b : RankKey) → IsBefore a b → ¬ (IsBefore b a)
+IsBefore-one_way a b first second =
     ⊎_elim (λ greater. ⊎_elim (λ more. omega arith) (λ tie. omega arith) second) (λ tie. ⊎_elim (λ more. omega arith) (λ tie_too. omega arith) second) first
 
-is_before_yes : (confidences : List ℕ) (a b : ℕ) → IsBefore confidences a b → is_before confidences a b ≡ true
-is_before_yes confidences a b before = grind (arith, nat_tests)
+is_before_yes : (a b : RankKey) → IsBefore a b → is_before a b ≡ true
+is_before_yes a b before = grind (arith, nat_tests)
 
-is_before_no : (confidences : List ℕ) (a b : ℕ) → ¬ (IsBefore confidences a b) → is_before confidences a b ≡ false
-is_before_no confidences a b not_before = grind (arith, nat_tests)
+is_before_no : (a b : RankKey) → ¬ (IsBefore a b) → is_before a b ≡ false
+is_before_no a b not_before = grind (arith, nat_tests)
 
 -- a test that passes just in front counts the front
 count_by_front : (test : ℕ → Bool) (xs : List ℕ) (front : ℕ) → front ≤ length xs → ((k : ℕ) → k < front → test (get_or xs k 0) ≡ true) → ((k : ℕ) → front ≤ k → k < length xs → test (get_or xs k 0) ≡ false) → count_by test xs ≡ front
@@ -42,24 +43,27 @@ count_by_front test (x ∷ xs) (suc front) within passes fails =
     ∙ omega (arith, count_by_front test xs front (omega arith) (λ k low. passes (suc k) (omega arith)) (λ k low high. fails (suc k) (omega arith) (omega arith)))
 
 module _ (confidences rows : List ℕ) (ranking : IsRanking confidences rows) where
-  far_before : (i j : ℕ) → i < j → j < length rows → IsBefore confidences (slice_index rows i) (slice_index rows j)
+  far_before : (i j : ℕ) → i < j → j < length rows → IsBefore (key_at confidences (slice_index rows i)) (key_at confidences (slice_index rows j))
   far_before i zero low within = absurd (omega arith)
   far_before i (suc j) low within =
       let follows : j + 1 ≡ suc j = omega arith in
-      let next = subst (λ k. IsBefore confidences (slice_index rows j) (slice_index rows k)) follows (ranking.in_order j (omega arith)) in
-      ⊎_elim (λ earlier. IsBefore-trans confidences (slice_index rows i) (slice_index rows j) (slice_index rows (suc j)) (far_before i j earlier (omega arith)) next)
-      (λ late. let same : j ≡ i = omega arith in subst (λ k. IsBefore confidences (slice_index rows k) (slice_index rows (suc j))) same next)
+      let next = subst (λ k. IsBefore (key_at confidences (slice_index rows j)) (key_at confidences (slice_index rows k))) follows (ranking.in_order j (omega arith)) in
+      ⊎_elim (λ earlier. IsBefore-trans (key_at confidences (slice_index rows i)) (key_at confidences (slice_index rows j)) (key_at confidences (slice_index rows (suc j))) (far_before i j earlier (omega arith)) next)
+      (λ late. let same : j ≡ i = omega arith in subst (λ k. IsBefore (key_at confidences (slice_index rows k)) (key_at confidences (slice_index rows (suc j)))) same next)
       (cases_lt i j)
 
   pub rank_of_place : (place : ℕ) → place < length rows → rank_of confidences (slice_index rows place) ≡ place
   rank_of_place place within =
-      let row = slice_index rows place in
-      sym (sum_by-IsPermutation (λ other. cond (is_before confidences other row) 1 0) (range_with_len 0 (length confidences)) rows ranking.each_once)
-      ∙ count_by_front (λ other. is_before confidences other row) rows place (omega arith)
-      (λ k low. is_before_yes confidences (slice_index rows k) row (far_before k place low within))
-      (λ k low high. is_before_no confidences (slice_index rows k) row (λ before. ⊎_elim
-      (λ later. IsBefore-one_way confidences row (slice_index rows k) (far_before place k later high) before)
-      (λ no_later. let same : k ≡ place = omega arith in IsBefore-one_way confidences row row (subst (λ i. IsBefore confidences (slice_index rows i) row) same before) (subst (λ i. IsBefore confidences (slice_index rows i) row) same before))
+      let key = key_at confidences (slice_index rows place) in
+      sym (sum_by-IsPermutation (λ other. cond (is_before (key_at confidences other) key) 1 0) (range_with_len 0 (length confidences)) rows ranking.each_once)
+      ∙ count_by_front (λ other. is_before (key_at confidences other) key) rows place (omega arith)
+      (λ k low. is_before_yes (key_at confidences (slice_index rows k)) key (far_before k place low within))
+      (λ k low high. is_before_no (key_at confidences (slice_index rows k)) key (λ before. ⊎_elim
+      (λ later. IsBefore-one_way key (key_at confidences (slice_index rows k)) (far_before place k later high) before)
+      (λ no_later.
+      let same : k ≡ place = omega arith in
+      let own = subst (λ i. IsBefore (key_at confidences (slice_index rows i)) key) same before in
+      IsBefore-one_way key key own own)
       (cases_lt place k)))
 
   pub row_of_rank : (row : ℕ) → row < length confidences → slice_index rows (rank_of confidences row) ≡ row
@@ -70,26 +74,34 @@ module _ (confidences rows : List ℕ) (ranking : IsRanking confidences rows) wh
       let at_place : slice_index rows found.0 ≡ row = sym (get_or_default_zero rows found.0 row found.1) ∙ found.2 in
       ap (λ other. slice_index rows (rank_of confidences other)) (sym at_place) ∙ ap (slice_index rows) (rank_of_place found.0 found.1) ∙ at_place
 
--- the order of the keys that are a confidence, the greater first, and then a row
-abbrev pub has_smaller_key : List ℕ → ℕ → ℕ → Bool
-has_smaller_key confidences a b = is_lt (ordering_then (nat_cmp (slice_index confidences b) (slice_index confidences a)) (nat_cmp a b))
+-- a row comes before another or behind it
+one_before : (a b : RankKey) → a.row ≢ b.row → is_before b a ≡ false → IsBefore a b
+one_before a b differ not_before = ⊎_elim inl
+    (λ le. ⊎_elim
+    (λ (less : a.confidence < b.confidence). absurd (let yes = is_before_yes b a (inl less) in true≢false (sym yes ∙ not_before)))
+    (λ ge.
+    let same : a.confidence ≡ b.confidence = omega arith in
+    ⊎_elim (λ (earlier : a.row < b.row). inr (same, earlier))
+    (λ later. absurd (let yes = is_before_yes b a (inr (sym same, omega arith)) in true≢false (sym yes ∙ not_before)))
+    (cases_lt a.row b.row))
+    (cases_lt a.confidence b.confidence))
+    (cases_lt b.confidence a.confidence)
 
-not_less : (x y a b : ℕ) → is_lt (ordering_then (nat_cmp x y) (nat_cmp b a)) ≡ false → y ≤ x
-not_less x y a b not_smaller = ⊎_elim (λ (less : x < y). grind (arith, nat_tests)) (λ ge. ge) (cases_lt x y)
+before_one_way : (a b : RankKey) → is_before a b ≡ true → is_before b a ≡ false
+before_one_way a b before = grind (arith, nat_tests)
 
-not_later : (x a b : ℕ) → is_lt (ordering_then (nat_cmp x x) (nat_cmp b a)) ≡ false → a ≤ b
-not_later x a b not_smaller = ⊎_elim (λ (less : b < a). grind (arith, nat_tests)) (λ ge. ge) (cases_lt b a)
+before_chain : (a b c : RankKey) → is_before a b ≡ false → is_before b c ≡ false → is_before a c ≡ false
+before_chain a b c first second = grind (arith, nat_tests)
 
-by_numbers : (x y a b : ℕ) → a ≢ b → is_lt (ordering_then (nat_cmp x y) (nat_cmp b a)) ≡ false → (y < x) ⊎ ((x ≡ y) × (a < b))
-by_numbers x y a b differ not_smaller = ⊎_elim inl
-    (λ le.
-    let same : y ≡ x = omega (arith, not_less x y a b not_smaller) in
-    let no_later = not_later x a b (subst (λ z. is_lt (ordering_then (nat_cmp x z) (nat_cmp b a)) ≡ false) same not_smaller) in
-    inr (sym same, omega arith))
-    (cases_lt y x)
+-- the test by which rows are sorted
+abbrev pub stands_before : List ℕ → ℕ → ℕ → Bool
+stands_before confidences a b = is_before (key_at confidences a) (key_at confidences b)
 
-before_by_key : (confidences : List ℕ) (a b : ℕ) → a ≢ b → has_smaller_key confidences b a ≡ false → IsBefore confidences a b
-before_by_key confidences a b differ not_smaller = by_numbers (slice_index confidences a) (slice_index confidences b) a b differ not_smaller
+pub stands_in_order : (confidences : List ℕ) → IsStrictWeakOrder (stands_before confidences)
+stands_in_order confidences = record {
+  one_way = λ a b. before_one_way (key_at confidences a) (key_at confidences b);
+  chain = λ a b c. before_chain (key_at confidences a) (key_at confidences b) (key_at confidences c);
+}
 
 nat_eq-flips : (a b : ℕ) → nat_eq a b ≡ nat_eq b a
 nat_eq-flips a b = ⊎_elim (λ same. grind (arith, nat_tests)) (λ differs. grind (arith, nat_tests)) (cases_eq a b)
@@ -101,13 +113,13 @@ numbers_differ count = IsDistinct-from_apart nat_eq (range_with_len 0 count)
     ne_eqb (get_or (range_with_len 0 count) i d) (get_or (range_with_len 0 count) j d)
     (λ same. omega (arith, get_or-range_with_len 0 count i d (omega arith), get_or-range_with_len 0 count j d within)))
 
--- rows that are sorted by their keys are ranked
-pub ranking_from_sort : (confidences rows : List ℕ) → IsPermutation (range_with_len 0 (length confidences)) rows → IsSortedBy (has_smaller_key confidences) rows → IsRanking confidences rows
+-- rows that are sorted by that test are ranked
+pub ranking_from_sort : (confidences rows : List ℕ) → IsPermutation (range_with_len 0 (length confidences)) rows → IsSortedBy (stands_before confidences) rows → IsRanking confidences rows
 ranking_from_sort confidences rows each_once sorted = record {
   each_once = each_once;
   in_order = λ k within.
       let distinct = IsDistinct-IsPermutation nat_eq nat_eq-flips (range_with_len 0 (length confidences)) rows each_once (numbers_differ (length confidences)) in
-      before_by_key confidences (slice_index rows k) (slice_index rows (k + 1))
+      one_before (key_at confidences (slice_index rows k)) (key_at confidences (slice_index rows (k + 1)))
       (eqb-false (slice_index rows k) (slice_index rows (k + 1)) (apart_from_distinct nat_eq rows k (k + 1) 0 distinct (omega arith) within))
       (sorted k 0 (omega arith) within);
 }

@@ -1,5 +1,5 @@
-use Rattle.conflict_logic.proofs.OrderLaws.{rank_of_place, row_of_rank}
-use Rattle.conflict_logic.proofs.order.ranking_lists_by_rank.Goals as goal
+use Rattle.rank_order.proofs.OrderLaws.{rank_of_place, row_of_rank}
+use Rattle.rank_order.proofs.laws.ranking_lists_by_rank.Goals as goal
 
 pub returns : goal.returns
 returns c = record {

@@ -1,0 +1,5 @@
+pub mod DigitLaws
+pub mod PowerLaws
+pub mod DecimalLaws
+pub mod ConfidenceLaws
+pub mod OrderLaws

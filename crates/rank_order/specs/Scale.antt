@@ -1,0 +1,32 @@
+-- Whole numbers times powers of ten.
+use Rattle.std.specs.Prelude.{◌≡◌, ◌≢◌, ◌≤◌, ◌⊎◌, ℕ, ◌+◌, ◌*◌, ◌%◌, ◌^◌, Bool, List, length}
+use Rattle.rank_order.specs.Decimal.{number_of, raised_by, lowered_by}
+use Rattle.rank_order.specs.declared.number.Number.{Number}
+
+-- the number with `up` zeros behind it is `units` with `down` zeros, and these are 10 ^ 36 at most
+pub record IsScaled (number up down units : ℕ) : Type 0 where
+  pub same : units * 10 ^ down ≡ number * 10 ^ up
+  pub most : units ≤ 10 ^ 36
+
+-- no whole number of units up to 10 ^ 36 is this number times a power of ten
+abbrev pub IsTooFine : ℕ → Type 0
+IsTooFine number = (up down units : ℕ) → IsScaled number up down units → ⊥
+
+abbrev pub value_of : Number → ℕ
+value_of n = n.significant * 10 ^ n.zeros
+
+-- the significant digits end in no zero, and are few
+pub record IsShort (n : Number) : Type 0 where
+  pub most : n.significant ≤ 10 ^ 36
+  pub last : (n.significant ≡ 0) ⊎ (n.significant % 10 ≢ 0)
+
+-- the number whose digits stand in two lists
+abbrev pub joined_number : List ℕ → List ℕ → ℕ
+joined_number whole fraction = number_of whole * 10 ^ length fraction + number_of fraction
+
+-- the zeros that units and an exponent put behind a number, and those that places behind the point and an exponent take
+abbrev pub up_by : Bool → List ℕ → ℕ
+up_by lowers exponent = 36 + raised_by lowers (number_of exponent)
+
+abbrev pub down_by : ℕ → Bool → List ℕ → ℕ
+down_by places lowers exponent = places + lowered_by lowers (number_of exponent)

@@ -1,0 +1,6 @@
+use Rattle.std.proofs.Common.{◌≡◌, take}
+use Rattle.repair_run.specs.Choice.{confidences_of}
+use Rattle.repair_run.proofs.diagnosis.confidences.Given as goal
+
+abbrev pub invariant-loop-row : goal.invariant-loop-row
+invariant-loop-row l = l.confidences.items ≡ confidences_of (take l.row-index l.rows)
