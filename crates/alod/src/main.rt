@@ -2,8 +2,12 @@
 // that leave a class without any possible member.
 #![tactic(auto)]
 
+ghost use Rattle.std.specs.Prelude.{◌≡◌};
+ghost use Rattle.std.specs.Process.{exit_status};
+ghost use Rattle.repair_run.specs.Status.{number_of};
+
 use io_edge::{RealFolder, StdSink};
-use repair_run::repair;
+use repair_run::{Status, repair};
 use std::alloc::Global;
 use std::env;
 use std::io::ErrorKind;
@@ -28,6 +32,13 @@ fn words(alloc: Global, args: env::Args) -> Result<Vec<Text>, u8> {
     Ok(words)
 }
 
+// How the program ends after an answer: with its number.
+fn ended_with(status: &Status) -> ExitCode
+    ensures { exit_status result ≡ number_of status.now }
+{
+    ExitCode::from(status.number())
+}
+
 fn main(rt: HostRuntime) -> ExitCode {
     let alloc = rt.alloc();
     let args = match env::args(&rt) {
@@ -44,5 +55,5 @@ fn main(rt: HostRuntime) -> ExitCode {
     let mut folder = RealFolder::new(&rt);
     let mut out = StdSink::new(&rt);
     let status = repair(alloc, words.as_slice(), &mut folder, &mut out);
-    ExitCode::from(status.number())
+    ended_with(&status)
 }
