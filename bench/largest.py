@@ -3,7 +3,8 @@
 
 A case has two documents just under 65,536 bytes, and a table with as many rows as fit into as many bytes. In `chains`
 each class is put below the next, so that a search goes far; in `trees` each is put below one of ten times fewer, so
-that a search is short; in `clashes` LEFT keeps pairs of classes apart, and many rows are removed. The program is built first, which is not measured.
+that a search is short; in `clashes` LEFT keeps pairs of classes apart, and many rows are removed. The program is built
+first, which is not measured.
 """
 
 import os
