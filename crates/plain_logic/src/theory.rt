@@ -183,14 +183,14 @@ impl Theory {
     }
 
     /// Puts one more axiom behind the others, whatever it leaves empty. After an error the theory is of no further use.
-    pub fn put(&mut self, axiom: &PlainAxiom) -> Result<(), AllocError>
+    pub fn put(&mut self, plain: &PlainAxiom) -> Result<(), AllocError>
         requires sized { IsSized self.old }
-        requires names { NamesBelow (classes_of self.old) axiom.now }
+        requires names { NamesBelow (classes_of self.old) plain.now }
         ensures still { OnOk result (IsSized self.new) }
         ensures classes { OnOk result (classes_of self.new ≡ classes_of self.old) }
-        ensures more { (axioms : List PlainAxiom) → IsTheory axioms self.old → OnOk result (IsTheory (axioms ++ axiom.now ∷ []) self.new) }
+        ensures more { (axioms : List PlainAxiom) → IsTheory axioms self.old → OnOk result (IsTheory (axioms ++ plain.now ∷ []) self.new) }
     {
-        match axiom {
+        match plain {
             PlainAxiom::SubClass(lower, upper) => self.put_below(*lower, *upper),
             PlainAxiom::Disjoint(one, other) => self.put_disjoint(*one, *other),
         }
