@@ -1,0 +1,15 @@
+//! The items of a document in OWL 2 functional-style syntax: tokens, and groups in brackets.
+#![tactic(auto)]
+
+mod fault;
+mod groups;
+mod item;
+mod laws;
+mod read;
+mod tokens;
+mod words;
+
+pub use fault::TermFault;
+pub use item::{Item, Items};
+pub use laws::tokens_have_one_list_of_items;
+pub use read::read_items;
