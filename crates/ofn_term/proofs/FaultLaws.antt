@@ -48,7 +48,7 @@ record Passes (most depth first : ℕ) (token : Token) : Type 0 where
 first_kept : (depth first start : ℕ) → 0 < depth → first_open depth first start ≡ first
 first_kept depth first start some = grind (arith, nat_tests)
 
-fault_at_closing : (most depth first : ℕ) (token : Token) (tokens : List Token) → is_open token ≡ false → is_close token ≡ true → 0 < depth →
+pub fault_at_closing : (most depth first : ℕ) (token : Token) (tokens : List Token) → is_open token ≡ false → is_close token ≡ true → 0 < depth →
     bracket_fault most depth first (token ∷ tokens) ≡ bracket_fault most (depth - 1) first tokens
 fault_at_closing most depth first token tokens o c some =
     let not_none : (depth == 0) ≡ false = grind (arith, nat_tests) in
@@ -197,9 +197,9 @@ behind_within most front bracket rest within level opening never =
     record {
       paired = λ inner others e. let h : closes inner ≤ opens inner = never inner others e in omega arith;
       shallow = λ inner others e.
-        let whole : front ++ bracket ∷ rest ≡ (front ++ bracket ∷ inner) ++ others = ap (λ (ts : List Token). front ++ bracket ∷ ts) e ∙ sym (append_assoc front (bracket ∷ inner) others) in
-        let h : opens (front ++ bracket ∷ inner) ≤ closes (front ++ bracket ∷ inner) + most = within.shallow (front ++ bracket ∷ inner) others whole in
-        omega (arith, opens-append front (bracket ∷ inner), closes-append front (bracket ∷ inner));
+          let whole : front ++ bracket ∷ rest ≡ (front ++ bracket ∷ inner) ++ others = ap (λ (ts : List Token). front ++ bracket ∷ ts) e ∙ sym (append_assoc front (bracket ∷ inner) others) in
+          let h : opens (front ++ bracket ∷ inner) ≤ closes (front ++ bracket ∷ inner) + most = within.shallow (front ++ bracket ∷ inner) others whole in
+          omega (arith, opens-append front (bracket ∷ inner), closes-append front (bracket ∷ inner));
     }
 
 pub unclosed_found : (most : ℕ) (tokens : List Token) (offset : ℕ) → IsUnclosed most tokens offset → bracket_fault most 0 0 tokens ≡ Some (Unclosed offset)

@@ -4,3 +4,4 @@ pub mod Standing
 pub mod OneList
 pub mod Faults
 pub mod FaultLaws
+pub mod TextLaws

@@ -111,7 +111,7 @@ read_in_place text (token ∷ tokens) =
     piece_in_place text token.kind token.start token.end tokens (pieces_of text tokens) (begins_read text tokens) (read_in_place text tokens)
 
 -- pieces in their places are those that are read from their tokens
-word_is_run : (kind : TokenKind) (b c : Bool) → ((is_run_kind kind && b) && c) ≡ true → kind ≡ Run
+pub word_is_run : (kind : TokenKind) (b c : Bool) → ((is_run_kind kind && b) && c) ≡ true → kind ≡ Run
 word_is_run Open b c e = cc
 word_is_run Close b c e = cc
 word_is_run Equals b c e = cc

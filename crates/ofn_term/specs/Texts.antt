@@ -21,13 +21,23 @@ pub record HasItems (text : List ℕ) (most : ℕ) (items : List Item) : Type 0 
 abbrev pub FailsIn : List ℕ → (List Token → ℕ → Type 0) → ℕ → Type 0
 FailsIn text IsFaultAt offset = (tokens : List Token) × HasTokens text 0 tokens None × IsFaultAt tokens offset
 
--- the first fault of a text; want of memory is none of the text's
+-- the first fault of the text: of its tokens, or else of their brackets
+abbrev pub HasFault : List ℕ → ℕ → TermFault → Type 0
+HasFault text most (fault.Lex offset) = (tokens : List Token) × HasTokens text 0 tokens (Some (record { offset = offset }))
+HasFault text most (fault.Unopened offset) = FailsIn text (IsUnopened most) offset
+HasFault text most (fault.Unclosed offset) = FailsIn text (IsUnclosed most) offset
+HasFault text most (fault.TooDeep offset) = FailsIn text (IsTooDeep most) offset
+HasFault text most fault.OutOfMemory = ⊥
+
+-- the same, unless memory ran out
 abbrev pub IsFirstFault : List ℕ → ℕ → TermFault → Type 0
-IsFirstFault text most (fault.Lex offset) = (tokens : List Token) × HasTokens text 0 tokens (Some (record { offset = offset }))
-IsFirstFault text most (fault.Unopened offset) = FailsIn text (IsUnopened most) offset
-IsFirstFault text most (fault.Unclosed offset) = FailsIn text (IsUnclosed most) offset
-IsFirstFault text most (fault.TooDeep offset) = FailsIn text (IsTooDeep most) offset
 IsFirstFault text most fault.OutOfMemory = ⊤
+IsFirstFault text most other = HasFault text most other
+
+-- the text has items or a first fault
+pub data HasAnswer (text : List ℕ) (most : ℕ) : Type 0 where
+  reads : (items : List Item) → HasItems text most items → HasAnswer text most
+  fails : (f : TermFault) → HasFault text most f → HasAnswer text most
 
 -- a token begins and ends where characters of the text do
 abbrev pub IsOfCharacters : List ℕ → Token → Type 0

@@ -10,31 +10,8 @@ use Rattle.ofn_term.specs.Brackets.{IsBracketAt}
 use Rattle.ofn_term.specs.Texts.{HasItems, IsFirstFault, IsOfCharacters, IsAtCharacter}
 use Rattle.ofn_term.specs.Writing.{token_of, pieces, tokens_of, AreInPlace}
 use Rattle.ofn_term.specs.Reading.{pieces_of, bracket_fault, IsFaultUnlessMemory}
-use Rattle.ofn_term.proofs.Faults.{IsFaultOf, fault_said}
-use Rattle.ofn_term.proofs.Standing.{are_short, tokens_read, read_in_place}
+use Rattle.ofn_term.proofs.TextLaws.{said, fault_of_brackets, written, items_of_tokens}
 use Rattle.ofn_term.proofs.read.read_items.Goals as goal
-
-said : (most : ℕ) (tokens : List Token) (found : Option TermFault) → bracket_fault most 0 0 tokens ≡ found → IsFaultOf most tokens found
-said most tokens found e = subst (IsFaultOf most tokens) e (fault_said most tokens)
-
-fault_of_brackets : (text : List ℕ) (most : ℕ) (tokens : List Token) (f : TermFault) → HasTokens text 0 tokens None → IsFaultUnlessMemory (bracket_fault most 0 0 tokens) f → IsFirstFault text most f
-fault_of_brackets text most tokens fault.OutOfMemory has is = tt
-fault_of_brackets text most tokens (fault.Lex offset) has is = absurd (said most tokens (Some (fault.Lex offset)) is)
-fault_of_brackets text most tokens (fault.Unopened offset) has is = (tokens, has, said most tokens (Some (fault.Unopened offset)) is)
-fault_of_brackets text most tokens (fault.Unclosed offset) has is = (tokens, has, said most tokens (Some (fault.Unclosed offset)) is)
-fault_of_brackets text most tokens (fault.TooDeep offset) has is = (tokens, has, said most tokens (Some (fault.TooDeep offset)) is)
-
-written : (text : List ℕ) (tokens : List Token) (items : List Item) → HasTokens text 0 tokens None → pieces_of text tokens ≡ pieces items → tokens_of items ≡ tokens
-written text tokens items has e = ap (map token_of) (sym e) ∙ tokens_read text tokens (are_short text 0 tokens None has)
-
-items_of_tokens : (text : List ℕ) (most : ℕ) (tokens : List Token) (items : List Item) → HasTokens text 0 tokens None →
-    pieces_of text tokens ≡ pieces items → bracket_fault most 0 0 tokens ≡ None → HasItems text most items
-items_of_tokens text most tokens items has e none = record {
-  tokens = tokens;
-  read = has;
-  within = (said most tokens None none).0;
-  stand = record { written = written text tokens items has e; in_place = subst (AreInPlace text) e (read_in_place text tokens) };
-}
 
 inside : (P : Token → Type 0) (front : List Token) (token : Token) (rest : List Token) → All P (front ++ token ∷ rest) → P token
 inside P [] token rest all = All-head P token rest all
