@@ -1,6 +1,7 @@
 -- Items, written out.
 use Rattle.std.specs.Prelude.{◌≡◌, ℕ, ◌+◌, ◌-◌, Bool, true, false, ◌&&◌, List, [], ◌∷◌, ◌++◌, map, Option, Some, None, ⊤}
 use Rattle.ofn_lex.specs.declared.token.Token.{Token}
+use Rattle.ofn_lex.specs.declared.token.TokenKind.{TokenKind}
 use Rattle.ofn_lex.specs.declared.token.TokenKind.TheVariants.{Open, Close}
 use Rattle.ofn_term.specs.declared.item.Item.{Item, fold-Item}
 use Rattle.ofn_term.specs.declared.item.Item.TheOpen.{Item-F}
@@ -14,8 +15,12 @@ pub data Piece : Type 0 where
   head : (token : Token) → Piece
   atom : (token : Token) → Piece
 
+-- a bracket takes up one byte
+abbrev pub bracket : TokenKind → ℕ → Token
+bracket kind start = record { kind = kind; start = start; end = start + 1 }
+
 abbrev pub token_of : Piece → Token
-token_of (opening start) = record { kind = Open; start = start; end = start + 1 }
+token_of (opening start) = bracket Open start
 token_of (closing end) = record { kind = Close; start = end - 1; end = end }
 token_of (head token) = token
 token_of (atom token) = token

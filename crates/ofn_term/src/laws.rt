@@ -1,13 +1,41 @@
 //! Laws on items: functions that do nothing for a caller, and whose contracts are the laws.
 
-ghost use Rattle.std.specs.Prelude.{◌≡◌, ℕ, List};
+ghost use Rattle.std.specs.Prelude.{◌≡◌, ℕ, List, [], ◌∷◌, codes, Some, None};
 ghost use Rattle.ofn_lex.specs.declared.token.Token.{Token};
+ghost use Rattle.ofn_lex.specs.declared.token.TokenKind.TheVariants.{Open, Close, Run};
+ghost use Rattle.ofn_term.specs.Brackets.{StayWithin, IsUnopened, IsUnclosed, IsTooDeep};
 ghost use Rattle.ofn_term.specs.Texts.{HasItems, HasFault, HasAnswer};
-ghost use Rattle.ofn_term.specs.Writing.{StandFor};
+ghost use Rattle.ofn_term.specs.Writing.{bracket, StandFor};
 ghost use Rattle.ofn_term.specs.declared.fault.TermFault.{TermFault};
 ghost use Rattle.ofn_term.specs.declared.item.Item.{Item};
+ghost use Rattle.ofn_term.specs.declared.item.Item.TheVariants.{Atom, Group};
 
 use ofn_lex::each_text_has_one_list_of_tokens;
+
+/// In `a()` the word heads the group; an abbreviated IRI stands before one without a head, and no
+/// bracket is an atom.
+pub fn heads_are_told_from_atoms()
+    ensures word { let word : Token = record { kind = Run; start = 0; end = 1 } in
+        let tokens = word ∷ bracket Open 1 ∷ bracket Close 2 ∷ [] in
+        StandFor (codes "a()") (Group (Some word) [] 1 3 ∷ []) tokens ×
+        (StandFor (codes "a()") (Atom word ∷ Group None [] 1 3 ∷ []) tokens → ⊥) }
+    ensures iri { let iri : Token = record { kind = Run; start = 0; end = 1 } in
+        let tokens = iri ∷ bracket Open 1 ∷ bracket Close 2 ∷ [] in
+        StandFor (codes ":()") (Atom iri ∷ Group None [] 1 3 ∷ []) tokens ×
+        (StandFor (codes ":()") (Group (Some iri) [] 1 3 ∷ []) tokens → ⊥) }
+    ensures no_bracket { (text : List ℕ) (tokens : List Token) →
+        StandFor text (Atom (bracket Open 0) ∷ Atom (bracket Close 1) ∷ []) tokens → ⊥ }
+{}
+
+/// Of `(()` the first bracket has no partner, and of `())` the last. Where one may be open, `((` is too
+/// deep at the second bracket, whatever follows.
+pub fn faults_of_brackets_are_told_apart()
+    ensures unclosed { let tokens = bracket Open 0 ∷ bracket Open 1 ∷ bracket Close 2 ∷ [] in
+        IsUnclosed 2 tokens 0 × (IsUnclosed 2 tokens 1 → ⊥) }
+    ensures unopened { IsUnopened 1 (bracket Open 0 ∷ bracket Close 1 ∷ bracket Close 2 ∷ []) 2 }
+    ensures too_deep { (rest : List Token) → IsTooDeep 1 (bracket Open 0 ∷ bracket Open 1 ∷ rest) 1 }
+    ensures within { StayWithin 1 (bracket Open 0 ∷ bracket Close 1 ∷ bracket Open 2 ∷ bracket Close 3 ∷ []) }
+{}
 
 /// Tokens have one list of items at most.
 pub fn tokens_have_one_list_of_items()

@@ -1,4 +1,4 @@
-ghost use Rattle.std.specs.Prelude.{◌≡◌, ◌≤◌, IfOk, IfErr, OnOk, MatchResult, None, All, IsUtf8};
+ghost use Rattle.std.specs.Prelude.{◌≡◌, ◌≤◌, length, IfOk, IfErr, OnOk, MatchResult, None, All, IsUtf8};
 ghost use Rattle.ofn_term.specs.Texts.{HasItems, IsFirstFault, IsOfCharacters, IsAtCharacter};
 ghost use Rattle.ofn_term.specs.Writing.{pieces, tokens_of};
 ghost use Rattle.ofn_term.specs.Reading.{pieces_of, bracket_fault, IsFaultUnlessMemory};
@@ -9,10 +9,20 @@ use crate::{Items, TermFault};
 use ofn_lex::Token;
 use std::alloc::Global;
 
-/// The items of a document.
+/// The items of a text, which come to its end. A word directly before an opening bracket, white space
+/// and comments aside, is the head of the group that the bracket begins; a run that holds a colon is
+/// no word.
+///
+/// `depth` is how many brackets may be open at one place. It is at most 256, so that neither this call
+/// nor a drop of what it gives goes deeper.
+///
+/// A fault of tokens anywhere comes before any fault of brackets. Of these the first from the left is
+/// answered; a bracket is missing its partner only at the end of the text. Brackets in quoted texts and
+/// comments are none.
 pub fn read_items(alloc: Global, text: &[u8], depth: u32) -> Result<Items, TermFault>
     requires { depth ≤ 256 }
     ensures items { IfOk result (HasItems text.now depth) }
+    ensures few { IfOk result (λ items. length (tokens_of items) ≤ length text.now) }
     ensures fault { IfErr result (IsFirstFault text.now depth) }
     ensures characters { IsUtf8 text.now →
         MatchResult result (λ items. All (IsOfCharacters text.now) (tokens_of items)) (IsAtCharacter text.now) }

@@ -1,4 +1,4 @@
-use Rattle.std.proofs.Common.{◌≡◌, ℕ, Bool, List, [], ◌∷◌, ◌++◌, map, All, IsCharBoundary, IsUtf8, IfOk, IfErr, OnOk, MatchResult, subst, ap, sym, ◌∙◌}
+use Rattle.std.proofs.Common.{◌≡◌, ◌≤◌, ℕ, Bool, length, List, [], ◌∷◌, ◌++◌, map, All, IsCharBoundary, IsUtf8, IfOk, IfErr, OnOk, MatchResult, subst, ap, sym, ◌∙◌}
 use Rattle.std.specs.Prelude.{Option, Some, None, Result, Ok, Err}
 use Rattle.std.proofs.lemmas.List.Elements.{All-head, All-tail}
 use Rattle.ofn_lex.specs.declared.token.Token.{Token}
@@ -48,6 +48,15 @@ characters_answer text most tokens own (Ok items) same has all e is =
     subst (All (IsOfCharacters text)) (sym (written text tokens items has (ap (pieces_of text) (sym same) ∙ e))) all
 characters_answer text most tokens own (Err f) same has all e is =
     fault_at_character text most tokens f all (subst (λ (ts : List Token). IsFaultUnlessMemory (bracket_fault most 0 0 ts) f) same is)
+
+few_answer : (text : List ℕ) (tokens own : List Token) (result : Result (List Item) TermFault) → own ≡ tokens → HasTokens text 0 tokens None → length tokens ≤ length text →
+    IfOk result (λ items. pieces_of text own ≡ pieces items) → IfOk result (λ items. length (tokens_of items) ≤ length text)
+few_answer text tokens own (Ok items) same has few e =
+    subst (λ (ts : List Token). length ts ≤ length text) (sym (written text tokens items has (ap (pieces_of text) (sym same) ∙ e))) few
+few_answer text tokens own (Err f) same has few e = tt
+
+pub returns-clause-few : goal.returns-clause-few
+returns-clause-few c = few_answer _ _ _ c.items_of.result c.as_slice.ensures.value c.in-Ok.ensures.ok c.in-Ok.ensures.few c.items_of.ensures.pieces
 
 pub returns-clause-items : goal.returns-clause-items
 returns-clause-items c = items_answer _ _ _ _ c.items_of.result c.as_slice.ensures.value c.in-Ok.ensures.ok c.items_of.ensures.pieces c.items_of.ensures.no_fault

@@ -9,6 +9,7 @@ abbrev pub invariant-loop-next : goal.invariant-loop-next
 invariant-loop-next l = record {
   within : l.at ≤ length l.text;
   so_far : (others : List Token) (last : Option LexFault) → HasTokens l.text l.at others last → HasTokens l.text 0 (l.tokens.items ++ others) last;
+  few : length l.tokens.items ≤ l.at;
   at_character : IsUtf8 l.text → IsCharBoundary l.text l.at;
   of_characters : IsUtf8 l.text → All (IsOfCharacters l.text) l.tokens.items;
 }
