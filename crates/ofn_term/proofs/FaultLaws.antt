@@ -1,15 +1,14 @@
 -- Tokens whose brackets have a first fault are those for which the function gives it.
 use Rattle.std.proofs.Common.{◌≡◌, ◌≤◌, ◌<◌, ℕ, ◌+◌, ◌-◌, Bool, true, false, cond, List, [], ◌∷◌, ◌++◌, append_assoc, append-nil, refl, ap, sym, subst, ◌∙◌, arith}
-use Rattle.std.specs.Prelude.{Option, Some, None, ◌==◌, nat_lt}
+use Rattle.std.specs.Prelude.{Some, None, ◌==◌, nat_lt}
 use Rattle.std.proofs.lemmas.Bool.Decides.{nat_tests}
 use Rattle.ofn_lex.specs.declared.token.Token.{Token}
-use Rattle.ofn_term.specs.declared.fault.TermFault.{TermFault}
 use Rattle.ofn_term.specs.declared.fault.TermFault.TheVariants.{Unopened, Unclosed, TooDeep}
 use Rattle.ofn_term.specs.Words.{is_open, is_close}
 use Rattle.ofn_term.specs.Brackets.{opens, closes, LeaveOpen, StayWithin, IsBracketAt, IsUnopened, IsTooDeep, IsUnclosed}
 use Rattle.ofn_term.specs.Reading.{first_open, bracket_fault}
 use Rattle.ofn_term.proofs.Closing.{fault_at_open, closing_is_not_open}
-use Rattle.ofn_term.proofs.Faults.{Within, Never, opened, closed, open_is_not_closing, opened_one, tail_of, step_never}
+use Rattle.ofn_term.proofs.Faults.{Within, Never, opened, closed, open_is_not_closing, opened_one}
 
 -- behind one more token
 tail_paired : (depth next : ℕ) (token : Token) (tokens : List Token) → depth + opened token ≡ next + closed token →
@@ -58,7 +57,7 @@ fault_at_other : (most depth first : ℕ) (token : Token) (tokens : List Token) 
     bracket_fault most depth first (token ∷ tokens) ≡ bracket_fault most depth first tokens
 fault_at_other most depth first token tokens o c = rw (o, c) refl
 
-no_one : (b : Bool) → b ≡ false → let n : ℕ = cond b 1 0 in n ≡ 0
+pub no_one : (b : Bool) → b ≡ false → let n : ℕ = cond b 1 0 in n ≡ 0
 no_one b e = ap (λ (v : Bool). let n : ℕ = cond v 1 0 in n) e
 
 passes_by : (v w : Bool) (most depth first : ℕ) (token : Token) → is_open token ≡ v → is_close token ≡ w →
@@ -182,11 +181,11 @@ none_found most tokens within total =
     ap (bracket_fault most 0 0) (sym (append-nil tokens)) ∙ by.same ∙ ap (λ (n : ℕ). bracket_fault most n by.first' []) none
 
 -- behind the bracket that is never closed
-opens-append : (xs ys : List Token) → opens (xs ++ ys) ≡ opens xs + opens ys
+pub opens-append : (xs ys : List Token) → opens (xs ++ ys) ≡ opens xs + opens ys
 opens-append [] ys = omega arith
 opens-append (x ∷ xs) ys = let h : opens (xs ++ ys) ≡ opens xs + opens ys = opens-append xs ys in omega arith
 
-closes-append : (xs ys : List Token) → closes (xs ++ ys) ≡ closes xs + closes ys
+pub closes-append : (xs ys : List Token) → closes (xs ++ ys) ≡ closes xs + closes ys
 closes-append [] ys = omega arith
 closes-append (x ∷ xs) ys = let h : closes (xs ++ ys) ≡ closes xs + closes ys = closes-append xs ys in omega arith
 

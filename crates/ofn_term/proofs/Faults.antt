@@ -1,5 +1,5 @@
 -- The first fault of brackets, and where it stands by how many brackets open and close before it.
-use Rattle.std.proofs.Common.{◌≡◌, ◌≤◌, ◌<◌, ℕ, zero, suc, ◌+◌, ◌-◌, Bool, true, false, cond, ◌⊎◌, inl, inr, List, [], ◌∷◌, ◌++◌, append_assoc, append-nil, refl, ap, sym, subst, ◌∙◌, arith}
+use Rattle.std.proofs.Common.{◌≡◌, ◌≤◌, ◌<◌, ℕ, zero, suc, ◌+◌, ◌-◌, Bool, true, false, cond, ◌⊎◌, inl, inr, List, [], ◌∷◌, ◌++◌, refl, ap, sym, subst, ◌∙◌, arith}
 use Rattle.std.specs.Prelude.{Option, Some, None, ◌==◌, nat_lt}
 use Rattle.std.proofs.lemmas.Bool.Decides.{nat_tests}
 use Rattle.ofn_lex.specs.declared.token.Token.{Token}
@@ -10,7 +10,7 @@ use Rattle.ofn_term.specs.declared.fault.TermFault.TheVariants.{Lex, Unopened, U
 use Rattle.ofn_term.specs.Words.{is_open_kind, is_close_kind, is_open, is_close}
 use Rattle.ofn_term.specs.Brackets.{opens, closes, LeaveOpen, StayWithin, IsBracketAt, IsUnclosed}
 use Rattle.ofn_term.specs.Reading.{first_open, bracket_fault}
-use Rattle.ofn_term.proofs.Closing.{fault_at_open, closing_is_not_open}
+use Rattle.ofn_term.proofs.Closing.{closing_is_not_open}
 
 pub open_is_not_closing : (kind : TokenKind) → is_open_kind kind ≡ true → is_close_kind kind ≡ false
 open_is_not_closing Open e = refl
@@ -55,7 +55,7 @@ opened token = cond (is_open token) 1 0
 abbrev pub closed : Token → ℕ
 closed token = cond (is_close token) 1 0
 
-none_paired : (depth : ℕ) (front rest : List Token) → [] ≡ front ++ rest → closes front ≤ depth + opens front
+pub none_paired : (depth : ℕ) (front rest : List Token) → [] ≡ front ++ rest → closes front ≤ depth + opens front
 none_paired depth [] rest e = omega arith
 none_paired depth (x ∷ front) rest e = cc
 
@@ -66,7 +66,7 @@ none_shallow most depth l (x ∷ front) rest e = cc
 none_within : (most depth : ℕ) → depth ≤ most → Within most depth []
 none_within most depth l = record { paired = none_paired depth; shallow = none_shallow most depth l }
 
-step_paired : (depth next : ℕ) (token : Token) (tokens : List Token) → depth + opened token ≡ next + closed token →
+pub step_paired : (depth next : ℕ) (token : Token) (tokens : List Token) → depth + opened token ≡ next + closed token →
     ((front rest : List Token) → tokens ≡ front ++ rest → closes front ≤ next + opens front) →
     (front rest : List Token) → token ∷ tokens ≡ front ++ rest → closes front ≤ depth + opens front
 step_paired depth next token tokens count behind [] rest e = omega arith

@@ -5,3 +5,4 @@ pub mod OneList
 pub mod Faults
 pub mod FaultLaws
 pub mod TextLaws
+pub mod Partners

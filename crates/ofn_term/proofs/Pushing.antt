@@ -1,6 +1,6 @@
 -- One more item.
 use Rattle.std.proofs.Common.{◌≡◌, ℕ, List, [], ◌∷◌, ◌++◌, map, refl, ap, sym, ◌∙◌}
-use Rattle.std.specs.Prelude.{Option, Some, None}
+use Rattle.std.specs.Prelude.{Option}
 use Rattle.std.proofs.lemmas.List.{append_assoc, append-nil}
 use Rattle.ofn_lex.specs.declared.token.Token.{Token}
 use Rattle.ofn_term.specs.declared.item.Item.{Item, fold-Item}
@@ -8,7 +8,7 @@ use Rattle.ofn_term.specs.declared.item.Item.TheOpen.{Item-F}
 use Rattle.ofn_term.specs.declared.item.Item.TheFolds.{fold-roll-Item}
 use Rattle.ofn_term.specs.declared.item.Item.TheVariants as item
 use Rattle.ofn_term.specs.declared.item.Item.TheVariants.{rolls-Atom, rolls-Group}
-use Rattle.ofn_term.specs.Writing.{Piece, opening, closing, head, atom, joined, opening_pieces, group_pieces, pieces_step, item_pieces, pieces}
+use Rattle.ofn_term.specs.Writing.{Piece, closing, atom, joined, opening_pieces, group_pieces, pieces_step, item_pieces, pieces}
 
 pub pieces-last : (items : List Item) (last : Item) → pieces (items ++ last ∷ []) ≡ pieces items ++ item_pieces last
 unfolding pieces

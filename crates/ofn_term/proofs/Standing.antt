@@ -1,14 +1,14 @@
 -- Tokens are read as just those pieces that stand for them.
-use Rattle.std.proofs.Common.{◌≡◌, ◌≤◌, ℕ, ◌+◌, ◌-◌, Bool, true, false, cond, not, ◌&&◌, ◌||◌, List, [], ◌∷◌, length, map, refl, ap, sym, subst, ◌∙◌, arith}
+use Rattle.std.proofs.Common.{◌≡◌, ℕ, ◌+◌, ◌-◌, Bool, true, false, cond, ◌&&◌, ◌||◌, List, [], ◌∷◌, length, map, refl, ap, sym, ◌∙◌, arith}
 use Rattle.std.specs.Prelude.{Option, ⊤}
 use Rattle.ofn_lex.specs.declared.token.Token.{Token}
 use Rattle.ofn_lex.specs.declared.token.LexFault.{LexFault}
 use Rattle.ofn_lex.specs.declared.token.TokenKind.{TokenKind}
 use Rattle.ofn_lex.specs.declared.token.TokenKind.TheVariants.{Open, Close, Equals, FullIri, Quoted, Lang, Carets, Run}
 use Rattle.ofn_lex.specs.Forms.{HasForm}
-use Rattle.ofn_lex.specs.Texts.{IsNext, HasTokens}
-use Rattle.ofn_term.specs.Words.{is_open_kind, is_close_kind, is_run_kind, is_open, is_bracket, is_word, begins_open}
-use Rattle.ofn_term.specs.Writing.{Piece, opening, closing, head, atom, token_of, begins_group, AreInPlace, StandFor, pieces}
+use Rattle.ofn_lex.specs.Texts.{HasTokens}
+use Rattle.ofn_term.specs.Words.{is_open_kind, is_run_kind, is_bracket, is_word, begins_open}
+use Rattle.ofn_term.specs.Writing.{Piece, opening, closing, head, atom, token_of, begins_group, AreInPlace}
 use Rattle.ofn_term.specs.Reading.{piece_of, pieces_of}
 
 -- a bracket takes up one byte

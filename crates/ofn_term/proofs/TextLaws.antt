@@ -1,5 +1,5 @@
 -- A text has items or one first fault.
-use Rattle.std.proofs.Common.{◌≡◌, ℕ, ◌+◌, ◌-◌, Bool, true, false, cond, not, ◌&&◌, ◌||◌, List, [], ◌∷◌, ◌++◌, map, subst, ap, sym, ◌∙◌, refl, arith, zero, suc}
+use Rattle.std.proofs.Common.{◌≡◌, ℕ, ◌+◌, ◌-◌, Bool, true, false, cond, ◌&&◌, ◌||◌, List, [], ◌∷◌, map, subst, ap, sym, ◌∙◌, refl, arith, zero, suc}
 use Rattle.std.specs.Prelude.{Option, Some, None, ◌==◌, nat_lt}
 use Rattle.std.proofs.lemmas.Bool.Decides.{nat_tests}
 use Rattle.ofn_lex.specs.declared.token.Token.{Token}
@@ -10,14 +10,14 @@ use Rattle.ofn_lex.specs.Texts.{HasTokens, HasReading}
 use Rattle.ofn_term.specs.declared.fault.TermFault.{TermFault}
 use Rattle.ofn_term.specs.declared.fault.TermFault.TheVariants as fault
 use Rattle.ofn_term.specs.declared.item.Item.{Item}
-use Rattle.ofn_term.specs.Words.{is_open_kind, is_close_kind, is_open, is_close, is_bracket, is_word, begins_open}
+use Rattle.ofn_term.specs.Words.{is_open_kind, is_close_kind, is_open, is_close, is_word, begins_open}
 use Rattle.ofn_term.specs.Brackets.{opens, closes}
 use Rattle.ofn_term.specs.Texts.{HasItems, HasFault, IsFirstFault, HasAnswer, reads, fails}
 use Rattle.ofn_term.specs.Writing.{Piece, opening, closing, head, atom, token_of, pieces, tokens_of, begins_group, AreInPlace, StandFor}
 use Rattle.ofn_term.specs.Reading.{piece_of, pieces_of, bracket_fault, first_open, IsFaultUnlessMemory}
 use Rattle.ofn_term.proofs.Faults.{IsFaultOf, fault_said}
-use Rattle.ofn_term.proofs.FaultLaws.{unopened_found, too_deep_found, unclosed_found, none_found, fault_at_closing}
-use Rattle.ofn_term.proofs.OneList.{one_list, ArePaired, AreBeforeGroups, HasList, some_list, openings, closings, even}
+use Rattle.ofn_term.proofs.FaultLaws.{unopened_found, too_deep_found, unclosed_found, none_found}
+use Rattle.ofn_term.proofs.OneList.{one_list, ArePaired, AreBeforeGroups, some_list, openings, closings, even}
 use Rattle.ofn_term.proofs.Standing.{are_short, tokens_read, read_in_place, written_then_read, word_is_run}
 
 pub said : (most : ℕ) (tokens : List Token) (found : Option TermFault) → bracket_fault most 0 0 tokens ≡ found → IsFaultOf most tokens found

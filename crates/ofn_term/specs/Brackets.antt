@@ -40,6 +40,16 @@ IsTooDeep most tokens offset = IsBracketAt most tokens is_open most offset
 abbrev pub LeaveOpen : List Token → Type 0
 LeaveOpen tokens = (front rest : List Token) → tokens ≡ front ++ rest → closes front ≤ opens front
 
+-- behind an opening bracket stands its partner, a closing one: between the two, brackets are in pairs
+pub record HasPartner (behind : List Token) : Type 0 where
+  pub between : List Token
+  pub bracket : Token
+  pub rest : List Token
+  pub whole : behind ≡ between ++ bracket ∷ rest
+  pub closing : is_close bracket ≡ true
+  pub paired : LeaveOpen between
+  pub closed : opens between ≡ closes between
+
 -- the brackets before an opening one have partners, and it has none
 pub record IsUnclosed (most : ℕ) (tokens : List Token) (offset : ℕ) : Type 0 where
   pub within : StayWithin most tokens

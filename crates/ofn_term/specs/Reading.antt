@@ -1,7 +1,6 @@
 -- How tokens are read: what each is to the items, and the first fault of brackets.
 use Rattle.std.specs.Prelude.{◌≡◌, ℕ, ◌+◌, ◌-◌, Bool, true, ◌&&◌, ◌==◌, nat_lt, if◌then◌else◌, List, [], ◌∷◌, Option, Some, None, ⊤}
 use Rattle.ofn_lex.specs.declared.token.Token.{Token}
-use Rattle.ofn_lex.specs.declared.token.LexFault.{LexFault}
 use Rattle.ofn_lex.specs.Texts.{HasTokens}
 use Rattle.ofn_term.specs.declared.fault.TermFault.{TermFault}
 use Rattle.ofn_term.specs.declared.fault.TermFault.TheVariants as fault

@@ -1,7 +1,6 @@
 -- What a text has: items, or a first fault.
-use Rattle.std.specs.Prelude.{◌≡◌, ℕ, List, Option, Some, None, ⊤}
+use Rattle.std.specs.Prelude.{ℕ, List, Some, None, ⊤}
 use Rattle.ofn_lex.specs.declared.token.Token.{Token}
-use Rattle.ofn_lex.specs.declared.token.LexFault.{LexFault}
 use Rattle.ofn_lex.specs.Texts.{HasTokens}
 use Rattle.ofn_term.specs.declared.fault.TermFault.{TermFault}
 use Rattle.ofn_term.specs.declared.fault.TermFault.TheVariants as fault

@@ -105,8 +105,8 @@ fn push_group(
     })
 }
 
-#[cycle(groups)]
 // What an opening bracket holds, where its partner ends, and what is behind that.
+#[cycle(groups)]
 fn group_at<'a>(
     alloc: Global,
     text: &[u8],
@@ -144,8 +144,8 @@ fn group_at<'a>(
     Ok((items, close.end, behind))
 }
 
-#[cycle(groups)]
 // The items up to a closing bracket whose partner is before them, and what is from there on.
+#[cycle(groups)]
 pub fn items_at<'a>(
     alloc: Global,
     text: &[u8],

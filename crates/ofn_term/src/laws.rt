@@ -1,9 +1,10 @@
 //! Laws on items: functions that do nothing for a caller, and whose contracts are the laws.
 
-ghost use Rattle.std.specs.Prelude.{◌≡◌, ℕ, List, [], ◌∷◌, codes, Some, None};
+ghost use Rattle.std.specs.Prelude.{◌≡◌, ℕ, List, [], ◌∷◌, ◌++◌, true, codes, Some, None};
 ghost use Rattle.ofn_lex.specs.declared.token.Token.{Token};
 ghost use Rattle.ofn_lex.specs.declared.token.TokenKind.TheVariants.{Open, Close, Run};
-ghost use Rattle.ofn_term.specs.Brackets.{StayWithin, IsUnopened, IsUnclosed, IsTooDeep};
+ghost use Rattle.ofn_term.specs.Brackets.{StayWithin, HasPartner, IsUnopened, IsUnclosed, IsTooDeep};
+ghost use Rattle.ofn_term.specs.Words.{is_open};
 ghost use Rattle.ofn_term.specs.Texts.{HasItems, HasFault, HasAnswer};
 ghost use Rattle.ofn_term.specs.Writing.{bracket, StandFor};
 ghost use Rattle.ofn_term.specs.declared.fault.TermFault.{TermFault};
@@ -35,6 +36,15 @@ pub fn faults_of_brackets_are_told_apart()
     ensures unopened { IsUnopened 1 (bracket Open 0 ∷ bracket Close 1 ∷ bracket Close 2 ∷ []) 2 }
     ensures too_deep { (rest : List Token) → IsTooDeep 1 (bracket Open 0 ∷ bracket Open 1 ∷ rest) 1 }
     ensures within { StayWithin 1 (bracket Open 0 ∷ bracket Close 1 ∷ bracket Open 2 ∷ bracket Close 3 ∷ []) }
+{}
+
+/// The bracket that is answered as `Unclosed` has no partner, and each opening one before it has one.
+pub fn unclosed_is_the_first_without_a_partner()
+    ensures none { (most : ℕ) (tokens : List Token) (offset : ℕ) (is : IsUnclosed most tokens offset) →
+        HasPartner is.bracket_at.rest → ⊥ }
+    ensures earlier { (most : ℕ) (tokens : List Token) (offset : ℕ) (is : IsUnclosed most tokens offset)
+        (front : List Token) (bracket : Token) (behind : List Token) →
+        is.bracket_at.front ≡ front ++ bracket ∷ behind → is_open bracket ≡ true → HasPartner behind }
 {}
 
 /// Tokens have one list of items at most.

@@ -2,7 +2,7 @@
 
 ghost use Rattle.std.specs.Prelude.{◌≡◌, ◌==◌, ◌&&◌};
 ghost use Rattle.std.specs.List.{list_any};
-ghost use Rattle.ofn_term.specs.Words.{bytes_of, is_open, is_close, is_run, is_word, begins_open};
+ghost use Rattle.ofn_term.specs.Words.{bytes_of, is_open, is_close, is_run, is_word};
 
 use ofn_lex::{Token, TokenKind};
 
@@ -44,13 +44,4 @@ pub fn is_word(text: &[u8], token: Token) -> bool
     ensures { result ≡ is_word text.now token }
 {
     is_run(token) && !has_colon(bytes_of(text, token))
-}
-
-pub fn begins_open(tokens: &[Token]) -> bool
-    ensures { result ≡ begins_open tokens.now }
-{
-    match tokens {
-        [] => false,
-        [first, ..] => is_open(*first),
-    }
 }

@@ -1,5 +1,5 @@
-use Rattle.std.proofs.Common.{◌≡◌, ◌≤◌, ℕ, Bool, length, List, [], ◌∷◌, ◌++◌, map, All, IsCharBoundary, IsUtf8, IfOk, IfErr, OnOk, MatchResult, subst, ap, sym, ◌∙◌}
-use Rattle.std.specs.Prelude.{Option, Some, None, Result, Ok, Err}
+use Rattle.std.proofs.Common.{◌≡◌, ◌≤◌, ℕ, Bool, length, List, [], ◌∷◌, ◌++◌, All, IsCharBoundary, IfOk, IfErr, OnOk, MatchResult, subst, ap, sym, ◌∙◌}
+use Rattle.std.specs.Prelude.{Some, None, Result, Ok, Err}
 use Rattle.std.proofs.lemmas.List.Elements.{All-head, All-tail}
 use Rattle.ofn_lex.specs.declared.token.Token.{Token}
 use Rattle.ofn_lex.specs.Texts.{HasTokens}
@@ -8,7 +8,7 @@ use Rattle.ofn_term.specs.declared.fault.TermFault.TheVariants as fault
 use Rattle.ofn_term.specs.declared.item.Item.{Item}
 use Rattle.ofn_term.specs.Brackets.{IsBracketAt}
 use Rattle.ofn_term.specs.Texts.{HasItems, IsFirstFault, IsOfCharacters, IsAtCharacter}
-use Rattle.ofn_term.specs.Writing.{token_of, pieces, tokens_of, AreInPlace}
+use Rattle.ofn_term.specs.Writing.{pieces, tokens_of}
 use Rattle.ofn_term.specs.Reading.{pieces_of, bracket_fault, IsFaultUnlessMemory}
 use Rattle.ofn_term.proofs.TextLaws.{said, fault_of_brackets, written, items_of_tokens}
 use Rattle.ofn_term.proofs.read.read_items.Goals as goal

@@ -1,4 +1,4 @@
-use Rattle.std.proofs.Common.{ℕ, List, Option, ◌++◌, ◌-◌, ◌≤◌, length, All, IsUtf8, IsCharBoundary}
+use Rattle.std.proofs.Common.{List, Option, ◌++◌, ◌-◌, ◌≤◌, length, All, IsUtf8, IsCharBoundary}
 use Rattle.ofn_lex.specs.declared.token.Token.{Token}
 use Rattle.ofn_lex.specs.declared.token.LexFault.{LexFault}
 use Rattle.ofn_lex.specs.Texts.{HasTokens}
