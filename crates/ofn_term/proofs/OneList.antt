@@ -1,7 +1,7 @@
 -- Pieces are those of one list of items at most, and where their brackets are in pairs, of one.
-use Rattle.std.proofs.Common.{◌≡◌, ℕ, zero, suc, ◌+◌, List, [], ◌∷◌, ◌++◌, length, map, arith, refl, ap, sym, subst, ◌∙◌, append_assoc}
+use Rattle.std.proofs.Common.{◌≡◌, ◌≤◌, ℕ, zero, suc, ◌+◌, List, [], ◌∷◌, ◌++◌, length, map, arith, refl, ap, sym, subst, ◌∙◌, append_assoc, length-append}
 use Rattle.std.specs.Prelude.{Option, Some, None, ⊤, true}
-use Rattle.std.proofs.lemmas.List.{append-nil}
+use Rattle.std.proofs.lemmas.List.{append-nil, length-map}
 use Rattle.ofn_lex.specs.declared.token.Token.{Token}
 use Rattle.ofn_term.specs.declared.item.Item.{Item}
 use Rattle.ofn_term.specs.declared.item.Item.TheOpen.{Item-F}
@@ -9,7 +9,7 @@ use Rattle.ofn_term.specs.declared.item.Item.TheFolds.{ind-Item, map-Item}
 use Rattle.ofn_term.specs.declared.item.Item.TheViews.{roll-Item}
 use Rattle.ofn_term.specs.declared.item.Item.TheVariants as item
 use Rattle.ofn_term.specs.declared.item.Item.TheVariants.{rolls-Atom, rolls-Group}
-use Rattle.ofn_term.specs.Writing.{Piece, opening, closing, head, atom, opening_pieces, group_pieces, item_pieces, pieces, begins_group}
+use Rattle.ofn_term.specs.Writing.{Piece, opening, closing, head, atom, opening_pieces, group_pieces, item_pieces, pieces, tokens_of, begins_group}
 use Rattle.ofn_term.proofs.Pushing.{pieces-atom, pieces-group, push_atom, push_group}
 
 -- an open group: its head, where it begins, and the items before it
@@ -212,3 +212,32 @@ even (i ∷ is) =
     let here : openings (item_pieces i) ≡ closings (item_pieces i) = even_item i in
     let behind : openings (pieces is) ≡ closings (pieces is) = even is in
     omega (arith, openings-append (item_pieces i) (pieces is), closings-append (item_pieces i) (pieces is))
+
+-- each item has a piece
+abbrev HasPiece : Item → Type 0
+HasPiece i = 1 ≤ length (item_pieces i)
+
+group_has_piece : (word : Option Token) (inner : List Piece) (start end : ℕ) → 1 ≤ length (group_pieces word inner start end)
+group_has_piece None inner start end = omega arith
+group_has_piece (Some token) inner start end = omega arith
+
+layer_has_piece : (y : Item-F ((i : Item) × HasPiece i)) → HasPiece (roll-Item (map-Item ((i : Item) × HasPiece i) Item (λ e. e.0) y))
+layer_has_piece (Item-F.Atom token) =
+    subst HasPiece (sym (rolls-Atom token)) (subst (λ (l : List Piece). 1 ≤ length l) (sym (pieces-atom token)) (let one : 1 ≤ length (atom token ∷ []) = omega arith in one))
+layer_has_piece (Item-F.Group word ys start end) =
+    subst HasPiece (sym (rolls-Group word (map (λ y. y.0) ys) start end))
+    (subst (λ (l : List Piece). 1 ≤ length l) (sym (pieces-group word (map (λ y. y.0) ys) start end)) (group_has_piece word (pieces (map (λ y. y.0) ys)) start end))
+
+item_has_piece : (i : Item) → HasPiece i
+item_has_piece = ind-Item HasPiece (λ x y is. subst (λ z. HasPiece (roll-Item z)) is (layer_has_piece y))
+
+no_more_than_pieces : (is : List Item) → length is ≤ length (pieces is)
+unfolding pieces
+no_more_than_pieces [] = omega arith
+no_more_than_pieces (i ∷ is) =
+    let here : 1 ≤ length (item_pieces i) = item_has_piece i in
+    let behind : length is ≤ length (pieces is) = no_more_than_pieces is in
+    omega (arith, length-append (item_pieces i) (pieces is))
+
+pub no_more_items : (is : List Item) → length is ≤ length (tokens_of is)
+no_more_items is = rw length-map (no_more_than_pieces is)

@@ -31,6 +31,15 @@ pieces-group word inner start end =
     ∙ fold-roll-Item (List Piece) pieces_step (Item-F.Group word inner start end)
     ∙ ap (λ (l : List Piece). group_pieces word l start end) (joined-pieces inner)
 
+pub pieces-first_atom : (token : Token) (items : List Item) → pieces (item.Atom token ∷ items) ≡ atom token ∷ pieces items
+unfolding pieces
+pieces-first_atom token items = ap (λ (l : List Piece). l ++ pieces items) (pieces-atom token)
+
+pub pieces-first_group : (word : Option Token) (inner : List Item) (start end : ℕ) (items : List Item) →
+    pieces (item.Group word inner start end ∷ items) ≡ group_pieces word (pieces inner) start end ++ pieces items
+unfolding pieces
+pieces-first_group word inner start end items = ap (λ (l : List Piece). l ++ pieces items) (pieces-group word inner start end)
+
 pub push_atom : (items : List Item) (token : Token) (rest : List Piece) → pieces (items ++ item.Atom token ∷ []) ++ rest ≡ pieces items ++ atom token ∷ rest
 push_atom items token rest = rw (pieces-last items (item.Atom token), pieces-atom token) (append_assoc (pieces items) (atom token ∷ []) rest)
 

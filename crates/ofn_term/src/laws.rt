@@ -1,17 +1,28 @@
 //! Laws on items: functions that do nothing for a caller, and whose contracts are the laws.
 
-ghost use Rattle.std.specs.Prelude.{◌≡◌, ℕ, List, [], ◌∷◌, ◌++◌, true, codes, Some, None};
+ghost use Rattle.std.specs.Prelude.{◌≡◌, ◌≤◌, ℕ, length, Option, List, [], ◌∷◌, ◌++◌, true, codes, Some, None};
 ghost use Rattle.ofn_lex.specs.declared.token.Token.{Token};
 ghost use Rattle.ofn_lex.specs.declared.token.TokenKind.TheVariants.{Open, Close, Run};
 ghost use Rattle.ofn_term.specs.Brackets.{StayWithin, HasPartner, IsUnopened, IsUnclosed, IsTooDeep};
 ghost use Rattle.ofn_term.specs.Words.{is_open};
 ghost use Rattle.ofn_term.specs.Texts.{HasItems, HasFault, HasAnswer};
-ghost use Rattle.ofn_term.specs.Writing.{bracket, StandFor};
+ghost use Rattle.ofn_term.specs.Writing.{bracket, atom, group_pieces, pieces, tokens_of, StandFor};
 ghost use Rattle.ofn_term.specs.declared.fault.TermFault.{TermFault};
 ghost use Rattle.ofn_term.specs.declared.item.Item.{Item};
 ghost use Rattle.ofn_term.specs.declared.item.Item.TheVariants.{Atom, Group};
 
 use ofn_lex::each_text_has_one_list_of_tokens;
+
+/// Items are written out one after another, a group with its head, its brackets and what is between
+/// them. Each gives a token at least.
+pub fn items_are_written_out()
+    ensures none { pieces [] ≡ [] }
+    ensures atom { (token : Token) (items : List Item) →
+        pieces (Atom token ∷ items) ≡ atom token ∷ pieces items }
+    ensures group { (word : Option Token) (inner : List Item) (start end : ℕ) (items : List Item) →
+        pieces (Group word inner start end ∷ items) ≡ group_pieces word (pieces inner) start end ++ pieces items }
+    ensures few { (items : List Item) → length items ≤ length (tokens_of items) }
+{}
 
 /// In `a()` the word heads the group; an abbreviated IRI stands before one without a head, and no
 /// bracket is an atom.
@@ -40,11 +51,11 @@ pub fn faults_of_brackets_are_told_apart()
 
 /// The bracket that is answered as `Unclosed` has no partner, and each opening one before it has one.
 pub fn unclosed_is_the_first_without_a_partner()
-    ensures none { (most : ℕ) (tokens : List Token) (offset : ℕ) (is : IsUnclosed most tokens offset) →
-        HasPartner is.bracket_at.rest → ⊥ }
-    ensures earlier { (most : ℕ) (tokens : List Token) (offset : ℕ) (is : IsUnclosed most tokens offset)
+    ensures none { (most : ℕ) (tokens : List Token) (offset : ℕ) (unclosed : IsUnclosed most tokens offset) →
+        HasPartner unclosed.bracket_at.rest → ⊥ }
+    ensures earlier { (most : ℕ) (tokens : List Token) (offset : ℕ) (unclosed : IsUnclosed most tokens offset)
         (front : List Token) (bracket : Token) (behind : List Token) →
-        is.bracket_at.front ≡ front ++ bracket ∷ behind → is_open bracket ≡ true → HasPartner behind }
+        unclosed.bracket_at.front ≡ front ++ bracket ∷ behind → is_open bracket ≡ true → HasPartner behind }
 {}
 
 /// Tokens have one list of items at most.

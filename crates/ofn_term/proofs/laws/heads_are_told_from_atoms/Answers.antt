@@ -1,16 +1,12 @@
-use Rattle.std.proofs.Common.{◌≡◌, ℕ, true, false, List, [], ◌∷◌, ◌++◌, map, codes, refl, ap, sym, subst, ◌∙◌, append-nil}
+use Rattle.std.proofs.Common.{◌≡◌, ℕ, true, false, List, [], ◌∷◌, map, codes, refl, ap, sym, subst, ◌∙◌, append-nil}
 use Rattle.std.specs.Prelude.{Option, Some, None}
 use Rattle.ofn_lex.specs.declared.token.Token.{Token}
 use Rattle.ofn_lex.specs.declared.token.TokenKind.TheVariants.{Open, Close, Run}
 use Rattle.ofn_term.specs.declared.item.Item.{Item}
 use Rattle.ofn_term.specs.declared.item.Item.TheVariants.{Atom, Group}
 use Rattle.ofn_term.specs.Writing.{Piece, opening, closing, head, atom, bracket, token_of, item_pieces, pieces, group_pieces, AreInPlace, StandFor}
-use Rattle.ofn_term.proofs.Pushing.{pieces-atom, pieces-group}
+use Rattle.ofn_term.proofs.Pushing.{pieces-group, pieces-first_atom}
 use Rattle.ofn_term.proofs.laws.heads_are_told_from_atoms.Goals as goal
-
-one_piece : (token : Token) (others : List Item) → pieces (Atom token ∷ others) ≡ atom token ∷ pieces others
-unfolding pieces
-one_piece token others = ap (λ (l : List Piece). l ++ pieces others) (pieces-atom token)
 
 lone_group : (word : Option Token) (start end : ℕ) → pieces (Group word [] start end ∷ []) ≡ group_pieces word [] start end
 unfolding pieces
@@ -29,7 +25,7 @@ headed : pieces (Group (Some first) [] 1 3 ∷ []) ≡ head first ∷ opening 1 
 headed = lone_group (Some first) 1 3
 
 loose : pieces (Atom first ∷ Group None [] 1 3 ∷ []) ≡ atom first ∷ opening 1 ∷ closing 3 ∷ []
-loose = one_piece first (Group None [] 1 3 ∷ []) ∙ ap (λ (l : List Piece). atom first ∷ l) (lone_group None 1 3)
+loose = pieces-first_atom first (Group None [] 1 3 ∷ []) ∙ ap (λ (l : List Piece). atom first ∷ l) (lone_group None 1 3)
 
 not_both : true ≡ false → ⊥
 not_both e = cc
@@ -41,4 +37,4 @@ pub returns-clause-iri : goal.returns-clause-iri
 returns-clause-iri c = (stand (codes ":()") _ _ _ loose refl (refl, refl, tt), λ is. not_both (sym (placed (codes ":()") _ _ _ headed is).0))
 
 pub returns-clause-no_bracket : goal.returns-clause-no_bracket
-returns-clause-no_bracket c = λ text tokens is. not_both (placed text _ _ tokens (one_piece (bracket Open 0) (Atom (bracket Close 1) ∷ [])) is).0
+returns-clause-no_bracket c = λ text tokens is. not_both (placed text _ _ tokens (pieces-first_atom (bracket Open 0) (Atom (bracket Close 1) ∷ [])) is).0
