@@ -10,10 +10,10 @@ pub enum TermFault {
     /// At this byte, outside of tokens, white space and comments, no token begins.
     #[error("no token begins at byte {offset}")]
     Lex { offset: usize },
-    /// This closing bracket stands where none is open.
+    /// At this closing bracket no bracket is open.
     #[error("closing bracket without partner at byte {offset}")]
     Unopened { offset: usize },
-    /// The first opening bracket that is never closed.
+    /// This opening bracket is never closed, and each one before it is.
     #[error("opening bracket without partner at byte {offset}")]
     Unclosed { offset: usize },
     /// This opening bracket makes more brackets open than the caller allows.

@@ -26,6 +26,14 @@ struct Opening<'a> {
     behind: &'a [Token],
 }
 
+// What a bracket and its partner have between them, where the partner ends, and what is behind it.
+#[derive(Drop)]
+struct Group<'a> {
+    items: Items,
+    end: usize,
+    behind: &'a [Token],
+}
+
 pub fn front(tokens: &[Token]) -> Option<(Token, &[Token])>
     ensures { MatchOption result (tokens.now ≡ []) (λ parts. tokens.now ≡ parts.0 ∷ parts.1.now) }
 {
@@ -105,7 +113,6 @@ fn push_group(
     })
 }
 
-// What an opening bracket holds, where its partner ends, and what is behind that.
 #[cycle(groups)]
 fn group_at<'a>(
     alloc: Global,
@@ -113,14 +120,14 @@ fn group_at<'a>(
     bracket: Token,
     behind: &'a [Token],
     level: Level,
-) -> Result<(Items, usize, &'a [Token]), TermFault>
+) -> Result<Group<'a>, TermFault>
     requires { is_open bracket ≡ true }
     ensures pieces { IfOk result (λ group. pieces_of text.now behind.now ≡
-        pieces group.0 ++ closing group.1 ∷ pieces_of text.now group.2.now) }
-    ensures shorter { IfOk result (λ group. length group.2.now < length behind.now) }
+        pieces group.items ++ closing group.end ∷ pieces_of text.now group.behind.now) }
+    ensures shorter { IfOk result (λ group. length group.behind.now < length behind.now) }
     ensures faults { IfOk result (λ group.
         bracket_fault level.most level.depth level.first (bracket ∷ behind.now) ≡
-        bracket_fault level.most level.depth level.first group.2.now) }
+        bracket_fault level.most level.depth level.first group.behind.now) }
     ensures err { IfErr result (IsFaultUnlessMemory (bracket_fault level.most level.depth level.first (bracket ∷ behind.now))) }
 {
     if level.depth >= level.most {
@@ -141,7 +148,11 @@ fn group_at<'a>(
     let Some((close, behind)) = front(rest) else {
         return Err(TermFault::Unclosed { offset: first });
     };
-    Ok((items, close.end, behind))
+    Ok(Group {
+        items,
+        end: close.end,
+        behind,
+    })
 }
 
 // The items up to a closing bracket whose partner is before them, and what is from there on.
@@ -174,17 +185,18 @@ pub fn items_at<'a>(
             rest = behind;
             continue;
         };
-        let (inner, end, behind) = match group_at(
-            alloc,
-            text,
-            opening.bracket,
-            opening.behind,
-            level,
-        ) {
+        let bracket = opening.bracket;
+        let group = match group_at(alloc, text, bracket, opening.behind, level) {
             Ok(group) => group,
             Err(fault) => return Err(fault),
         };
-        push_group(&mut items, opening.head, inner, opening.bracket.start, end)?;
-        rest = behind;
+        push_group(
+            &mut items,
+            opening.head,
+            group.items,
+            bracket.start,
+            group.end,
+        )?;
+        rest = group.behind;
     }
 }

@@ -4,13 +4,14 @@ use ofn_lex::Token;
 /// Items in the order of the text.
 pub type Items = ListOf<Item>;
 
-/// A token that is no bracket, or a group: what stands between a bracket and its partner.
+/// A token, or a group: an opening bracket, its partner and the items between the two.
 #[derive(Debug, Drop)]
 pub enum Item {
+    /// A token that is neither a bracket nor the head of a group.
     Atom(Token),
-    /// A group with the word directly before its bracket, where there is one. It takes up the bytes
-    /// from `start`, its opening bracket, up to `end`, behind its closing one. A word before the
-    /// bracket stands before `start`, perhaps with white space and comments between.
+    /// A group, with the word directly before its bracket as its head, where there is one. It takes up
+    /// the bytes from `start`, its opening bracket, up to `end`, behind its closing one. The head ends
+    /// at or before `start`: white space and comments may stand between.
     Group {
         head: Option<Token>,
         items: Items,

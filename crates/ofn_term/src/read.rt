@@ -9,16 +9,16 @@ use crate::{Items, TermFault};
 use ofn_lex::Token;
 use std::alloc::Global;
 
-/// The items of a text, which come to its end. A word directly before an opening bracket, white space
-/// and comments aside, is the head of the group that the bracket begins; a run that holds a colon is
-/// no word.
+/// The items of a whole text in OWL 2 functional-style syntax, with the lenient points that
+/// `docs/formats/documents.md` has. A word directly before an opening bracket, white space and comments
+/// aside, is the head of the group that the bracket begins; a run that holds a colon is no word.
 ///
 /// `depth` is how many brackets may be open at one place. It is at most 256, so that neither this call
 /// nor a drop of what it gives goes deeper.
 ///
-/// A fault of tokens anywhere comes before any fault of brackets. Of these the first from the left is
-/// answered; a bracket is missing its partner only at the end of the text. Brackets in quoted texts and
-/// comments are none.
+/// A fault of tokens anywhere in the text comes before any fault of brackets. Of these the first from
+/// the left is answered, and `Unclosed` only where there is no other. Brackets within quoted texts,
+/// full IRIs and comments are none.
 pub fn read_items(alloc: Global, text: &[u8], depth: u32) -> Result<Items, TermFault>
     requires { depth ≤ 256 }
     ensures items { IfOk result (HasItems text.now depth) }
