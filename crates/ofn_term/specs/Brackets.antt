@@ -17,7 +17,8 @@ pub record StayWithin (most : ℕ) (tokens : List Token) : Type 0 where
   pub paired : (front rest : List Token) → tokens ≡ front ++ rest → closes front ≤ opens front
   pub shallow : (front rest : List Token) → tokens ≡ front ++ rest → opens front ≤ closes front + most
 
--- at the offset stands a bracket that passes a test, and before it so many are open
+-- at the offset stands a bracket that passes a test; before it the tokens stay within the bounds, and
+-- as many brackets are open as the level says
 pub record IsBracketAt (most : ℕ) (tokens : List Token) (passes : Token → Bool) (level offset : ℕ) : Type 0 where
   pub front : List Token
   pub bracket : Token

@@ -1,5 +1,6 @@
 -- What a text has: items, or a first fault.
 use Rattle.std.specs.Prelude.{ℕ, List, Some, None, ⊤}
+use Rattle.std.specs.Str.{IsCharBoundary}
 use Rattle.ofn_lex.specs.declared.token.Token.{Token}
 use Rattle.ofn_lex.specs.Texts.{HasTokens}
 use Rattle.ofn_term.specs.declared.fault.TermFault.{TermFault}
@@ -7,7 +8,6 @@ use Rattle.ofn_term.specs.declared.fault.TermFault.TheVariants as fault
 use Rattle.ofn_term.specs.declared.item.Item.{Item}
 use Rattle.ofn_term.specs.Brackets.{StayWithin, IsUnopened, IsUnclosed, IsTooDeep}
 use Rattle.ofn_term.specs.Writing.{StandFor}
-use Rattle.std.specs.Str.{IsCharBoundary}
 
 -- the text has tokens to its end, with at most so many brackets open, and the items stand for them
 pub record HasItems (text : List ℕ) (most : ℕ) (items : List Item) : Type 0 where
