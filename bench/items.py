@@ -1,7 +1,8 @@
 #!/usr/bin/env python3
 """Reads the items of made texts of one to eight megabytes, of three kinds: axioms as documents have
 them, brackets alone side by side, and brackets alone 256 deep. Prints for each the least seconds of
-five readings and the nanoseconds a byte. Of one kind the last are to be the same for each size.
+five readings and the nanoseconds a byte. Of one kind the last are to stay the same as texts grow,
+but for memory: a reading whose memory the system hands out anew takes up to twice as long.
 
 The driver is written to a temporary repository and built there by `rt run`, which proves it and the
 crates below it first: that takes some minutes, and is not measured.
