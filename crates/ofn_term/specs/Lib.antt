@@ -1,0 +1,5 @@
+pub mod Words
+pub mod Writing
+pub mod Brackets
+pub mod Texts
+pub mod Reading
