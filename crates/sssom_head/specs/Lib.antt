@@ -1,0 +1,5 @@
+pub mod Lines
+pub mod Contents
+pub mod Entries
+pub mod Reading
+pub mod Heads

@@ -1,0 +1,12 @@
+//! The header of a mapping table: its lines, and the prefixes that it declares.
+#![tactic(auto)]
+
+mod content;
+mod entry;
+mod head;
+mod lines;
+mod place;
+mod reading;
+
+pub use head::HeadFault;
+pub use place::Place;
