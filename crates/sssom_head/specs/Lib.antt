@@ -2,4 +2,5 @@ pub mod Lines
 pub mod Contents
 pub mod Entries
 pub mod Reading
+pub mod BuiltIn
 pub mod Heads

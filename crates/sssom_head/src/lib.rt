@@ -8,5 +8,5 @@ mod lines;
 mod place;
 mod reading;
 
-pub use head::HeadFault;
+pub use head::{Head, HeadFault, read_head};
 pub use place::Place;
