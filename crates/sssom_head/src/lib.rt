@@ -7,6 +7,8 @@ mod head;
 mod lines;
 mod place;
 mod reading;
+#[cfg(test)]
+mod tests;
 
 pub use head::{Head, HeadFault, read_head};
 pub use place::Place;
