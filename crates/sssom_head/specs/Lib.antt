@@ -3,4 +3,5 @@ pub mod Contents
 pub mod Entries
 pub mod Reading
 pub mod BuiltIn
+pub mod Headers
 pub mod Heads
