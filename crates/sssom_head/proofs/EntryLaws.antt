@@ -1,13 +1,13 @@
 -- What is read as an entry, and its key and value in UTF-8.
-use Rattle.std.proofs.Common.{◌≡◌, ◌∙◌, ℕ, zero, suc, ◌+◌, ◌-◌, ◌≤◌, ◌<◌, Bool, true, false, cond, true≢false, ◌&&◌, List, [], ◌∷◌, ◌++◌, length, take, drop, get_or, refl, ap, sym, subst, arith, append_assoc, append-nil, length-append}
+use Rattle.std.proofs.Common.{◌≡◌, ◌∙◌, ℕ, zero, suc, ◌+◌, ◌≤◌, ◌<◌, Bool, true, false, cond, ◌&&◌, List, [], ◌∷◌, ◌++◌, length, take, drop, get_or, refl, ap, sym, subst, arith, append_assoc, append-nil, length-append}
 use Rattle.std.specs.Prelude.{Option, Some, None, IsUtf8, ◌==◌, ⊤, replicate}
 use Rattle.std.specs.List.{AllByRecursion, prefix_len}
-use Rattle.std.specs.Str.{is_utf8, IsCharBoundary}
+use Rattle.std.specs.Str.{is_utf8}
 use Rattle.std.proofs.lemmas.Bool.Decides.{nat_tests}
 use Rattle.std.proofs.lemmas.Str.{IsUtf8-from_is_utf8, is_utf8-from_IsUtf8, IsUtf8-take, IsUtf8-drop, IsCharBoundary-before_ascii, IsCharBoundary-after_ascii}
 use Rattle.sssom_head.specs.Lines.{begins_with_hash}
 use Rattle.sssom_head.specs.Contents.{behind_spaces, indentation}
-use Rattle.sssom_head.specs.Entries.{is_quote, is_quoted_byte, is_key_byte, is_mark, is_value_byte, Word, word_text, word_bytes, IsQuoted, IsKey, BeginsValue, IsValue, Comment, comment_text, IsComment, Entry, entry_text, IsEntry}
+use Rattle.sssom_head.specs.Entries.{is_quote, is_quoted_byte, is_key_byte, is_mark, is_value_byte, Word, word_text, word_bytes, IsKey, BeginsValue, IsValue, Comment, comment_text, IsComment, Entry, entry_text, IsEntry}
 use Rattle.sssom_head.specs.Reading.{Pair, split_some, quote_at, split_quote, key_in, value_in, behind_some_spaces, behind_colon, ends_entry, entry_with_value, entry_behind_colon, entry_with_key, entry_in, entry_of}
 
 -- a text in UTF-8 may be cut round an ASCII byte

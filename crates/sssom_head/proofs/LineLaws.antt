@@ -1,5 +1,5 @@
 -- The first line of a text.
-use Rattle.std.proofs.Common.{◌≡◌, ◌∙◌, ℕ, zero, suc, ◌+◌, ◌≤◌, Bool, true, false, cond, List, [], ◌∷◌, length, take, drop, refl, ap, sym, subst, arith}
+use Rattle.std.proofs.Common.{◌≡◌, ◌∙◌, ℕ, zero, suc, ◌+◌, ◌≤◌, Bool, true, false, cond, List, [], ◌∷◌, take, drop, refl, ap, arith}
 use Rattle.std.specs.Prelude.{◌==◌}
 use Rattle.sssom_head.specs.Contents.{indentation, behind_spaces}
 use Rattle.sssom_head.specs.Lines.{onto_line, lines_of, first_line_end, begins_with_hash, hash_lines, header_lines}

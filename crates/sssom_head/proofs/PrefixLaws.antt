@@ -1,8 +1,8 @@
 -- Prefixes that are declared one after another.
-use Rattle.std.proofs.Common.{◌≡◌, ◌≢◌, ◌∙◌, ℕ, Bool, true, false, cond, List, [], ◌∷◌, ◌++◌, refl, ap, sym, subst, bytes_eq}
+use Rattle.std.proofs.Common.{◌≡◌, ◌≢◌, ◌∙◌, ℕ, Bool, true, false, cond, List, [], ◌∷◌, ◌++◌, refl, ap, sym, bytes_eq}
 use Rattle.std.specs.Prelude.{Option, Some, None, is_some, not, IsSomeAnd}
 use Rattle.std.specs.Cmp.Lexicographic.{bytes_decides}
-use Rattle.text_names.specs.Prefixes.{Prefixes, iri_of, with_prefix, HasOtherIri}
+use Rattle.text_names.specs.Prefixes.{Prefixes, iri_of, with_prefix}
 use Rattle.sssom_head.specs.BuiltIn.{with_all}
 use Rattle.sssom_head.specs.Reading.{is_other}
 
@@ -50,6 +50,7 @@ with_prefix_iri held a v k = by (is_some (iri_of held a)) refl
         let equal : k ≡ a = (bytes_decides k a).0 e in
         sym (some_or (iri_of held k) (Some v) (ap (λ (l : List ℕ). is_some (iri_of held l)) equal ∙ h))
     same false e h = sym (or_none (iri_of held k))
+
     by : (d : Bool) → is_some (iri_of held a) ≡ d → iri_of (cond d held (held ++ (a, v) ∷ [])) k ≡ or_iri (iri_of held k) (iri_of ((a, v) ∷ []) k)
     by true e = same (bytes_eq k a) refl e
     by false e = iri_append held ((a, v) ∷ []) k

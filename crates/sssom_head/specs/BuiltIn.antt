@@ -1,5 +1,5 @@
 -- The prefixes that hold in each table, unless its header says otherwise.
-use Rattle.std.specs.Prelude.{ℕ, List, [], ◌∷◌, codes}
+use Rattle.std.specs.Prelude.{[], ◌∷◌, codes}
 use Rattle.text_names.specs.Prefixes.{Prefixes, with_prefix}
 
 abbrev pub built_in : Prefixes

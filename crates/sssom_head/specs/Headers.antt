@@ -1,6 +1,6 @@
 -- A header as its lines say it: where its map stands, which lines are entries, and which line is at fault. Each list
 -- holds the contents of lines.
-use Rattle.std.specs.Prelude.{◌≡◌, ◌≢◌, ◌≤◌, ◌<◌, ◌⊎◌, ℕ, ◌+◌, Bool, true, false, if◌then◌else◌, List, [], ◌∷◌, ◌++◌, length, Option, Some, None, Result, Ok, Err, IsSomeAnd, ⊤}
+use Rattle.std.specs.Prelude.{◌≡◌, ◌≢◌, ◌≤◌, ◌<◌, ◌⊎◌, ℕ, ◌+◌, true, false, if◌then◌else◌, List, [], ◌∷◌, ◌++◌, length, Option, Some, None, Ok, Err, IsSomeAnd, ⊤}
 use Rattle.std.specs.List.{AllByRecursion}
 use Rattle.text_names.specs.Prefixes.{Prefixes, iri_of, HasOtherIri}
 use Rattle.sssom_head.specs.declared.head.HeadFault.{HeadFault}

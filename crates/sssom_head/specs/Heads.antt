@@ -6,8 +6,9 @@ use Rattle.sssom_head.specs.declared.head.HeadFault.{HeadFault}
 use Rattle.sssom_head.specs.declared.head.HeadFault.TheVariants.{MapForm, Again, OutOfMemory}
 use Rattle.sssom_head.specs.declared.place.Place.{Place}
 use Rattle.sssom_head.specs.Lines.{header_lines, bytes_in, contents_of}
-use Rattle.sssom_head.specs.Reading.{State, Answer, at_place, run, start}
+use Rattle.sssom_head.specs.Reading.{Answer, at_place, run, start}
 use Rattle.sssom_head.specs.BuiltIn.{with_built_in}
+use Rattle.sssom_head.specs.Headers.{IsFirstFault, IsSound}
 
 -- the fault is the expected one; want of memory may come at any time
 abbrev pub IsFaultOf : Answer → HeadFault → Type 0
@@ -41,3 +42,19 @@ pub record IsHead (bytes : List ℕ) (head : Head) : Type 0 where
 abbrev pub IsReadAs : List ℕ → Result Head HeadFault → Type 0
 IsReadAs bytes (Ok head) = IsHead bytes head
 IsReadAs bytes (Err fault) = IsFaultOf (read bytes) fault
+
+-- no header line is at fault, and so many bytes have these lines; the prefixes are the entries of the map, and of the
+-- built-in ones those that the map has not
+pub record IsHeadOf (bytes : List ℕ) (head : Head) : Type 0 where
+  pub place : Place
+  pub entries : Prefixes
+  pub sound : IsSound (contents_of bytes) place entries
+  pub counted : head.length ≡ bytes_in (header_lines bytes)
+  pub prefixes : head.prefixes ≡ with_built_in entries
+
+-- what the lines of a header say; want of memory may come at any time
+abbrev pub IsHeader : List ℕ → Result Head HeadFault → Type 0
+IsHeader bytes (Ok head) = IsHeadOf bytes head
+IsHeader bytes (Err (MapForm line)) = IsFirstFault (contents_of bytes) (MapForm line)
+IsHeader bytes (Err (Again line)) = IsFirstFault (contents_of bytes) (Again line)
+IsHeader bytes (Err OutOfMemory) = ⊤

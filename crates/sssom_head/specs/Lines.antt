@@ -1,5 +1,5 @@
 -- The header lines of a table, and their contents.
-use Rattle.std.specs.Prelude.{ℕ, ◌+◌, ◌-◌, ◌==◌, Bool, true, false, ◌&&◌, ◌||◌, if◌then◌else◌, List, [], ◌∷◌, length, take, drop, map, bytes_eq}
+use Rattle.std.specs.Prelude.{ℕ, ◌+◌, ◌-◌, ◌==◌, Bool, false, ◌&&◌, ◌||◌, if◌then◌else◌, List, [], ◌∷◌, length, take, drop, map, bytes_eq}
 
 -- a byte more before the first line
 abbrev pub onto_line : ℕ → List (List ℕ) → List (List ℕ)

@@ -1,10 +1,10 @@
 -- How a header is read, line by line.
-use Rattle.std.specs.Prelude.{◌≡◌, ℕ, ◌+◌, ◌==◌, nat_lt, nat_le, Bool, true, false, not, ◌&&◌, ◌||◌, if◌then◌else◌, List, [], ◌∷◌, ◌++◌, length, take, drop, bytes_eq, Option, Some, None, Result, Ok, Err, ⊤}
+use Rattle.std.specs.Prelude.{ℕ, ◌+◌, ◌==◌, nat_le, Bool, true, false, not, ◌&&◌, if◌then◌else◌, List, [], ◌∷◌, take, drop, bytes_eq, Option, Some, None, Result, Ok, Err}
 use Rattle.std.specs.List.{prefix_len}
 use Rattle.std.specs.Str.{is_utf8}
 use Rattle.text_names.specs.Prefixes.{Prefixes, iri_of, with_prefix}
 use Rattle.sssom_head.specs.declared.head.HeadFault.{HeadFault}
-use Rattle.sssom_head.specs.declared.head.HeadFault.TheVariants.{MapForm, Again, OutOfMemory}
+use Rattle.sssom_head.specs.declared.head.HeadFault.TheVariants.{MapForm, Again}
 use Rattle.sssom_head.specs.declared.place.Place.{Place}
 use Rattle.sssom_head.specs.declared.place.Place.TheVariants.{Before, Inside, Past}
 use Rattle.sssom_head.specs.Lines.{begins_with_hash}

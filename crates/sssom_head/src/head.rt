@@ -1,7 +1,7 @@
-ghost use Rattle.std.specs.Prelude.{◌≡◌, [], OnOk};
+ghost use Rattle.std.specs.Prelude.{◌≡◌, ◌≤◌, [], length, IfOk, OnOk};
 ghost use Rattle.text_names.specs.Prefixes.{with_prefix};
 ghost use Rattle.sssom_head.specs.BuiltIn.{with_built_in};
-ghost use Rattle.sssom_head.specs.Heads.{AreRead, IsReadAs};
+ghost use Rattle.sssom_head.specs.Heads.{AreRead, IsReadAs, IsHeader};
 
 use crate::Place;
 use crate::lines::{content_of, split_header_line};
@@ -34,8 +34,11 @@ pub struct Head {
 /// the start on that begin with `#`, and in them the map `curie_map`. The bytes are those behind a
 /// byte order mark, if there is one; they may be any, and of the other lines and of the table
 /// nothing is asked. The fault is that of the first line that is at fault.
+#[tactic(auto, using(crate::proofs::HeaderLaws::header_is))]
 pub fn read_head(alloc: Global, bytes: &[u8]) -> Result<Head, HeadFault>
-    ensures { IsReadAs bytes.now result }
+    ensures answer { IsReadAs bytes.now result }
+    ensures header { IsHeader bytes.now result }
+    ensures within { IfOk result (λ head. head.length ≤ length bytes.now) }
 {
     let mut prefixes = PrefixMap::new(alloc);
     match read_lines(bytes, &mut prefixes) {
@@ -50,7 +53,8 @@ pub fn read_head(alloc: Global, bytes: &[u8]) -> Result<Head, HeadFault>
 // Takes in the header lines, and counts their bytes.
 fn read_lines(bytes: &[u8], prefixes: &mut PrefixMap) -> Result<usize, HeadFault>
     requires { prefixes.old ≡ [] }
-    ensures { AreRead bytes.now result prefixes.new }
+    ensures answer { AreRead bytes.now result prefixes.new }
+    ensures within { IfOk result (λ len. len ≤ length bytes.now) }
 {
     let mut place = Place::Before;
     let mut rest = bytes;

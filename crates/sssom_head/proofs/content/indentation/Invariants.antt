@@ -1,4 +1,4 @@
-use Rattle.std.proofs.Common.{◌≡◌, ◌≤◌, ◌+◌, drop}
+use Rattle.std.proofs.Common.{◌≡◌, ◌+◌, drop}
 use Rattle.sssom_head.specs.Contents.{indentation}
 use Rattle.sssom_head.proofs.content.indentation.Given as goal
 

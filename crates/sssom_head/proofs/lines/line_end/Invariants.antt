@@ -1,4 +1,4 @@
-use Rattle.std.proofs.Common.{◌≡◌, ◌≤◌, ◌+◌, drop}
+use Rattle.std.proofs.Common.{◌≡◌, ◌+◌, drop}
 use Rattle.sssom_head.specs.Lines.{first_line_end}
 use Rattle.sssom_head.proofs.lines.line_end.Given as goal
 

@@ -1,6 +1,4 @@
-use Rattle.std.proofs.Common.{◌≡◌, ◌∙◌, List, ℕ, sym}
-use Rattle.std.specs.Prelude.{Some}
-use Rattle.sssom_head.specs.Reading.{entry_of}
+use Rattle.std.proofs.Common.{sym}
 use Rattle.sssom_head.proofs.EntryLaws.{entry_is, entry_utf8}
 use Rattle.sssom_head.proofs.reading.with_entry.Goals as goal
 
