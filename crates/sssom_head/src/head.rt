@@ -13,8 +13,12 @@ use thiserror::Error;
 /// Why a header was not read. Lines are counted from 1.
 #[derive(Clone, Copy, Debug, PartialEq, Eq, Error)]
 pub enum HeadFault {
+    /// The line has no form that its place in the map `curie_map` allows: a first line of the map
+    /// with other text behind its colon than `{}`, a second first line, or an entry that is indented
+    /// otherwise than the first, is not spelled as one or is not UTF-8.
     #[error("line {line}: curie_map form")]
     MapForm { line: u64 },
+    /// The line is an entry whose prefix has another IRI already.
     #[error("line {line}: prefix again")]
     Again { line: u64 },
     #[error("out of memory")]

@@ -16,4 +16,4 @@ pub use laws::{
     contents_are_told_apart, header_prefixes_win, one_entry_at_most,
     what_is_read_is_what_the_lines_say,
 };
-pub use place::Place;
+use place::Place;

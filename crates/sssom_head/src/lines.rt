@@ -1,7 +1,7 @@
 // The header lines of a table, and their contents.
 
 ghost use Rattle.std.specs.Prelude.{◌≡◌, ◌≤◌, ◌+◌, ◌∷◌, [], length, MatchOption};
-ghost use Rattle.sssom_head.specs.Lines.{header_lines, first_line_end, begins_with_hash, less_back, less_line_end, is_space_or_tab, trimmed_end, trimmed, content_of};
+ghost use Rattle.sssom_head.specs.Lines.{header_lines, first_line_end, begins_with_hash, less_line_end, is_space_or_tab, trimmed_end, trimmed, content_of};
 
 pub fn begins_with_hash(bytes: &[u8]) -> bool
     ensures { result ≡ begins_with_hash bytes.now }
