@@ -7,7 +7,7 @@ use Rattle.rank_order.specs.declared.decimal.DecimalText.{DecimalText}
 use Rattle.rank_order.specs.Decimal.{AreDigits, IsExponent, Exponent, Decimal, number_of, fraction_digits, exponent_digits, lowers, raised_by, lowered_by, IsDecimal, IsConfidence}
 use Rattle.rank_order.specs.Reading.{decimal_of}
 use Rattle.rank_order.specs.Parts.{HasParts, IsDecimalText}
-use Rattle.rank_order.specs.Scale.{IsScaled, joined_number, up_by, down_by}
+use Rattle.rank_order.specs.Scale.{joined_number, down_by, AreScaledBy}
 use Rattle.rank_order.proofs.PowerLaws.{number_of-append, ten_pos}
 use Rattle.rank_order.proofs.DecimalLaws.{reads_back, is_read}
 
@@ -24,19 +24,16 @@ value_same units joined places raised lowered number n e =
     ap (λ (k : ℕ). units * k) (pow-add 10 places lowered) ∙ e ∙ omega arith
     ∙ ap (λ (k : ℕ). k * (10 ^ 36 * 10 ^ raised)) n ∙ ap (λ (k : ℕ). joined * k) (sym (pow-add 10 36 raised))
 
--- units of what stands in a text: digits before the point and behind it, and an exponent
-abbrev pub IsScaledBy : List ℕ → List ℕ → Bool → List ℕ → ℕ → Type 0
-IsScaledBy whole fraction lowers exponent units = IsScaled (joined_number whole fraction) (up_by lowers exponent) (down_by (length fraction) lowers exponent) units
-
+-- the same of a decimal number
 abbrev pub IsScaledDecimal : Decimal → ℕ → Type 0
-IsScaledDecimal d units = IsScaledBy d.whole (fraction_digits d.fraction) (lowers d.exponent) (exponent_digits d.exponent) units
+IsScaledDecimal d units = AreScaledBy d.whole (fraction_digits d.fraction) (lowers d.exponent) (exponent_digits d.exponent) units
 
-scaled_with : (w w' f f' : List ℕ) (l l' : Bool) (x x' : List ℕ) (units : ℕ) → w ≡ w' → f ≡ f' → l ≡ l' → x ≡ x' → IsScaledBy w f l x units → IsScaledBy w' f' l' x' units
+scaled_with : (w w' f f' : List ℕ) (l l' : Bool) (x x' : List ℕ) (units : ℕ) → w ≡ w' → f ≡ f' → l ≡ l' → x ≡ x' → AreScaledBy w f l x units → AreScaledBy w' f' l' x' units
 scaled_with w w' f f' l l' x x' units ew ef el ex h =
-    subst (λ (k : List ℕ). IsScaledBy w' f' l' k units) ex
-    (subst (λ (k : Bool). IsScaledBy w' f' k x units) el
-    (subst (λ (k : List ℕ). IsScaledBy w' k l x units) ef
-    (subst (λ (k : List ℕ). IsScaledBy k f l x units) ew h)))
+    subst (λ (k : List ℕ). AreScaledBy w' f' l' k units) ex
+    (subst (λ (k : Bool). AreScaledBy w' f' k x units) el
+    (subst (λ (k : List ℕ). AreScaledBy w' k l x units) ef
+    (subst (λ (k : List ℕ). AreScaledBy k f l x units) ew h)))
 
 pub confidence_from : (text : List ℕ) (d : Decimal) (units : ℕ) → decimal_of text ≡ Some d → IsScaledDecimal d units → IsConfidence text units
 confidence_from text d units e scaled =
@@ -95,13 +92,13 @@ module _ (text : List ℕ) (parts : DecimalText) (r : IsRead text parts) where
   pub exponent_are : AreDigits parts.exponent.digits.now
   exponent_are = subst AreDigits (sym r.has.digits) (exponent_are_digits r.decimal.exponent r.form.exponent)
 
-  pub read_from : (units : ℕ) → IsScaledBy parts.whole.now parts.fraction.now parts.exponent.lowers parts.exponent.digits.now units → IsConfidence text units
+  pub read_from : (units : ℕ) → AreScaledBy parts.whole.now parts.fraction.now parts.exponent.lowers parts.exponent.digits.now units → IsConfidence text units
   read_from units h =
       let d = r.decimal in
       confidence_from text d units r.read
       (scaled_with parts.whole.now d.whole parts.fraction.now (fraction_digits d.fraction) parts.exponent.lowers (lowers d.exponent) parts.exponent.digits.now (exponent_digits d.exponent) units r.has.whole r.has.fraction r.has.lowers r.has.digits h)
 
-  pub refused_from : ((units : ℕ) → IsScaledBy parts.whole.now parts.fraction.now parts.exponent.lowers parts.exponent.digits.now units → ⊥) → (units : ℕ) → IsConfidence text units → ⊥
+  pub refused_from : ((units : ℕ) → AreScaledBy parts.whole.now parts.fraction.now parts.exponent.lowers parts.exponent.digits.now units → ⊥) → (units : ℕ) → IsConfidence text units → ⊥
   refused_from none units h =
       let d = r.decimal in
       let is = confidence_is text units h in

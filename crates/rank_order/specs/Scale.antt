@@ -30,3 +30,11 @@ up_by lowers exponent = 36 + raised_by lowers (number_of exponent)
 
 abbrev pub down_by : ℕ → Bool → List ℕ → ℕ
 down_by places lowers exponent = places + lowered_by lowers (number_of exponent)
+
+-- the same of a number of which so many digits stand behind the point, and which an exponent follows
+abbrev pub IsScaledBy : ℕ → ℕ → Bool → List ℕ → ℕ → Type 0
+IsScaledBy number places lowers exponent units = IsScaled number (up_by lowers exponent) (down_by places lowers exponent) units
+
+-- the same of the digits before the point and behind it
+abbrev pub AreScaledBy : List ℕ → List ℕ → Bool → List ℕ → ℕ → Type 0
+AreScaledBy whole fraction lowers exponent units = IsScaledBy (joined_number whole fraction) (length fraction) lowers exponent units

@@ -1,6 +1,6 @@
-ghost use Rattle.std.specs.Prelude.{◌≡◌, ◌≤◌, ◌+◌, ◌^◌, ℕ, length, IfSome, IfNone, ◌<◌};
+ghost use Rattle.std.specs.Prelude.{◌≡◌, ◌≤◌, ◌^◌, ℕ, IfSome, IfNone, ◌<◌};
 ghost use Rattle.rank_order.specs.Decimal.{AreDigits, IsConfidence};
-ghost use Rattle.rank_order.specs.Scale.{IsScaled, IsTooFine, IsShort, value_of, joined_number, up_by, down_by};
+ghost use Rattle.rank_order.specs.Scale.{IsTooFine, IsShort, value_of, joined_number, IsScaledBy, AreScaledBy};
 
 use crate::decimal::read_decimal;
 use crate::number::{Number, scaled, small_number, with_digits};
@@ -69,8 +69,8 @@ fn units_of(whole: &[u8], fraction: &[u8], lowers: bool, exponent: &[u8]) -> Opt
     requires whole { AreDigits whole.now }
     requires fraction { AreDigits fraction.now }
     requires exponent { AreDigits exponent.now }
-    ensures units { IfSome result (IsScaled (joined_number whole.now fraction.now) (up_by lowers exponent.now) (down_by (length fraction.now) lowers exponent.now)) }
-    ensures none { IfNone result ((units : ℕ) → IsScaled (joined_number whole.now fraction.now) (up_by lowers exponent.now) (down_by (length fraction.now) lowers exponent.now) units → ⊥) }
+    ensures units { IfSome result (AreScaledBy whole.now fraction.now lowers exponent.now) }
+    ensures none { IfNone result ((units : ℕ) → AreScaledBy whole.now fraction.now lowers exponent.now units → ⊥) }
 {
     match digits_of(whole, fraction) {
         Some(number) => by_exponent(number, fraction.len(), lowers, exponent),
@@ -103,8 +103,8 @@ fn by_exponent(number: Number, places: usize, lowers: bool, exponent: &[u8]) -> 
     requires zeros { number.zeros < 2 ^ 64 }
     requires places { places < 2 ^ 63 }
     requires exponent { AreDigits exponent.now }
-    ensures units { IfSome result (IsScaled (value_of number) (up_by lowers exponent.now) (down_by places lowers exponent.now)) }
-    ensures none { IfNone result ((units : ℕ) → IsScaled (value_of number) (up_by lowers exponent.now) (down_by places lowers exponent.now) units → ⊥) }
+    ensures units { IfSome result (IsScaledBy (value_of number) places lowers exponent.now) }
+    ensures none { IfNone result ((units : ℕ) → IsScaledBy (value_of number) places lowers exponent.now units → ⊥) }
 {
     let Some(size) = small_number(exponent) else {
         return if number.significant == 0 {

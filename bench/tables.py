@@ -1,0 +1,156 @@
+#!/usr/bin/env python3
+"""Reads long confidences and long headers, ranks many confidences, and prints for each the least
+seconds of five runs and the nanoseconds a byte or a row. These are to be nearly the same for each
+size of a kind: reading is linear, and ranking grows as n log n.
+
+The driver is written to a temporary repository and built there by `rt run`, which proves it and
+the crates below it first: that takes some minutes, and is not measured.
+"""
+
+import pathlib
+import shutil
+import subprocess
+import tempfile
+
+DRIVER = """#![tactic(auto)]
+
+use anyhow::Result;
+use rank_order::{Confidence, rank};
+use sssom_head::read_head;
+use std::alloc::Global;
+use std::time::Instant;
+
+// A point, many zeros, digits, many zeros and an exponent.
+fn made_confidence(alloc: Global, size: usize) -> Result<Vec<u8>> {
+    let mut text = Vec::new(alloc);
+    text.push(b'.')?;
+    for _ in 0..size / 2 {
+        text.push(b'0')?;
+    }
+    text.extend_from_slice(b"123456789012345678901234567890123456".as_slice())?;
+    for _ in 0..size / 2 {
+        text.push(b'0')?;
+    }
+    let zeros = size / 2;
+    let exponent = format!(in alloc; "e{zeros}")?;
+    text.extend_from_slice(exponent.as_str().as_bytes())?;
+    Ok(text)
+}
+
+fn made_header(alloc: Global, size: usize) -> Result<Vec<u8>> {
+    let mut text = Vec::from_slice(alloc, b"# curie_map:\\n".as_slice())?;
+    for i in 0..1_000_000u32 {
+        if text.len() >= size {
+            break;
+        }
+        let line = format!(in alloc; "#   prefix{i}: \\"http://example.org/ontology/{i}#\\" # made\\n# \\n")?;
+        text.extend_from_slice(line.as_str().as_bytes())?;
+    }
+    Ok(text)
+}
+
+// Two digits of a number that jumps about, and six of its place.
+fn made_confidences(alloc: Global, count: u32) -> Result<Vec<Confidence>> {
+    let mut confidences = Vec::new(alloc);
+    for i in 0..count {
+        let jump = i.wrapping_mul(2_654_435_761) >> 20;
+        let text = format!(in alloc; "0.{jump}{i}")?;
+        match Confidence::read(text.as_str().as_bytes()) {
+            Some(confidence) => confidences.push(confidence)?,
+            None => {}
+        }
+    }
+    Ok(confidences)
+}
+
+fn time_confidence(rt: &HostRuntime, text: &[u8]) -> Result<f64> {
+    let mut least = f64::MAX;
+    for _ in 0..5 {
+        let start = Instant::now(rt)?;
+        if Confidence::read(text).is_none() {
+            println!(rt; "not read")?;
+        }
+        least = least.min(start.elapsed(rt)?.as_secs_f64());
+    }
+    Ok(least)
+}
+
+fn time_header(rt: &HostRuntime, text: &[u8]) -> Result<f64> {
+    let mut least = f64::MAX;
+    for _ in 0..5 {
+        let start = Instant::now(rt)?;
+        if read_head(rt.alloc(), text).is_err() {
+            println!(rt; "not read")?;
+        }
+        least = least.min(start.elapsed(rt)?.as_secs_f64());
+    }
+    Ok(least)
+}
+
+fn time_rank(rt: &HostRuntime, confidences: &[Confidence]) -> Result<f64> {
+    let mut least = f64::MAX;
+    if confidences.len() >= 1 << 31 {
+        return Ok(least);
+    }
+    for _ in 0..5 {
+        let start = Instant::now(rt)?;
+        let ranks = rank(rt.alloc(), confidences)?;
+        if ranks.as_slice().is_empty() {
+            println!(rt; "no ranks")?;
+        }
+        least = least.min(start.elapsed(rt)?.as_secs_f64());
+    }
+    Ok(least)
+}
+
+fn main(rt: HostRuntime) -> Result<()> {
+    for size in [1_000_000usize, 2_000_000, 4_000_000, 8_000_000] {
+        let text = made_confidence(rt.alloc(), size)?;
+        let seconds = time_confidence(&rt, text.as_slice())?;
+        let bytes = u32::try_from(text.len())?;
+        let cost = seconds * 1e9 / bytes as f64;
+        println!(rt; "confidence of {bytes} bytes: {seconds:.4} s, {cost:.2} ns each")?;
+    }
+    for size in [1_000_000usize, 2_000_000, 4_000_000, 8_000_000] {
+        let text = made_header(rt.alloc(), size)?;
+        let seconds = time_header(&rt, text.as_slice())?;
+        let bytes = u32::try_from(text.len())?;
+        let cost = seconds * 1e9 / bytes as f64;
+        println!(rt; "header of {bytes} bytes: {seconds:.4} s, {cost:.2} ns each")?;
+    }
+    for count in [100_000u32, 200_000, 400_000, 800_000] {
+        let confidences = made_confidences(rt.alloc(), count)?;
+        let seconds = time_rank(&rt, confidences.as_slice())?;
+        let cost = seconds * 1e9 / count as f64;
+        println!(rt; "ranking of {count} rows: {seconds:.4} s, {cost:.2} ns each")?;
+    }
+    Ok(())
+}
+"""
+
+
+def main():
+    repository = pathlib.Path(__file__).resolve().parent.parent
+    with tempfile.TemporaryDirectory() as folder:
+        crates = pathlib.Path(folder) / "crates"
+        for name in ["text_names", "rank_order", "sssom_head"]:
+            shutil.copytree(
+                repository / "crates" / name, crates / name, ignore=shutil.ignore_patterns("out")
+            )
+        (crates / "bench_tables" / "src").mkdir(parents=True)
+        (crates / "bench_tables" / "src" / "main.rt").write_text(DRIVER)
+        (pathlib.Path(folder) / "crates.txt").write_text(
+            "text_names: thiserror indexmap\nrank_order:\nsssom_head: text_names thiserror\n"
+            "bench_tables: rank_order sssom_head anyhow\n"
+        )
+        run = subprocess.run(
+            ["rt", "run", "--jobs", "2"],
+            cwd=crates / "bench_tables",
+            capture_output=True,
+            text=True,
+        )
+        lines = [line for line in run.stdout.splitlines() if " ns each" in line]
+        print("\n".join(lines) if lines else run.stdout + run.stderr)
+
+
+main()

@@ -1,0 +1,4 @@
+pub mod LineLaws
+pub mod EntryLaws
+pub mod PrefixLaws
+pub mod HeaderLaws

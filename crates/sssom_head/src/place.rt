@@ -1,0 +1,11 @@
+/// Where in a header the lines so far lead.
+#[derive(Clone, Copy, Debug, PartialEq, Eq)]
+pub enum Place {
+    /// No map has begun.
+    Before,
+    /// In a map whose first line has the indentation `map`, behind entries with the indentation
+    /// `entries`, if there are any.
+    Inside { map: usize, entries: Option<usize> },
+    /// Behind the map.
+    Past,
+}
