@@ -1,16 +1,14 @@
 -- Names within the classes, and marks of rows.
-use Rattle.std.proofs.Common.{◌≡◌, ◌≢◌, ◌↔◌, ℕ, zero, suc, map, true≢false, ◌+◌, ◌<◌, ◌≤◌, ◌&&◌, Bool, true, false, nat_lt, if◌then◌else◌, List, [], ◌∷◌, ◌++◌, length, take, get_or, set, slice_index, Option, Some, Result, OnOk, OnErr, None, MatchOption, bytes_eq, refl, sym, ◌∙◌, ap, subst, IsTrue, Contains, All, ⊎_elim, arith}
+use Rattle.std.proofs.Common.{◌≡◌, ◌≢◌, ◌↔◌, ℕ, zero, suc, map, true≢false, ◌+◌, ◌<◌, ◌≤◌, ◌&&◌, Bool, true, false, nat_lt, List, [], ◌∷◌, ◌++◌, length, take, get_or, set, slice_index, Option, None, MatchOption, refl, sym, ◌∙◌, subst, IsTrue, Contains, All, ⊎_elim, arith}
 use Rattle.std.specs.List.{list_all, range_with_len}
 use Rattle.std.proofs.lemmas.Bool.{cases_eq}
 use Rattle.std.proofs.lemmas.Bool.Decides.{nat_tests}
 use Rattle.std.proofs.lemmas.List.Sorted.{All-permutation, length_permutation}
 use Rattle.std.proofs.lemmas.List.FromFn.{length-range_with_len, get_or-range_with_len}
-use Rattle.std.proofs.lemmas.List.{map_more, get_or-set_same, get_or-set_other, length-append}
-use Rattle.std.proofs.lemmas.List.Quantifiers.{position-Some}
-use Rattle.std.proofs.lemmas.List.Elements.{All-nil, All-cons, All-head, All-tail, All-push, All-weaker, All-contains_itself, All-from_get_or, Contains-append_left, Contains-push, Contains-push_cases}
+use Rattle.std.proofs.lemmas.List.{map_more, get_or-set_same, get_or-set_other}
+use Rattle.std.proofs.lemmas.List.Elements.{All-nil, All-cons, All-head, All-tail, All-weaker, All-contains_itself, All-from_get_or, Contains-append_left, Contains-push, Contains-push_cases}
 use Rattle.conflict_logic.specs.Repair.{IsRepair}
 use Rattle.rank_order.specs.Order.{IsRanking}
-use Rattle.text_names.specs.Names.{number_of, with_name, is_held}
 use Rattle.plain_logic.specs.declared.axioms.PlainAxiom.{PlainAxiom}
 use Rattle.plain_logic.specs.declared.axioms.PlainAxiom.TheVariants.{SubClass, Disjoint}
 use Rattle.plain_logic.specs.declared.axioms.PlainRow.{PlainRow}

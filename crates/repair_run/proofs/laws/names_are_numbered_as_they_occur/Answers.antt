@@ -1,5 +1,5 @@
 use Rattle.std.proofs.Common.{◌≡◌, ◌⊎◌, ℕ, ◌<◌, Bool, true, false, if◌then◌else◌, List, [], ◌∷◌, ◌++◌, length, Option, Some, None, is_some, bytes_eq, inl, inr, refl, sym, subst, Contains, ⊎_elim, arith}
-use Rattle.std.specs.List.{slice_get, position_or_len}
+use Rattle.std.specs.List.{position_or_len}
 use Rattle.std.specs.Cmp.Lexicographic.{bytes_decides}
 use Rattle.std.proofs.lemmas.Bool.Decides.{nat_tests}
 use Rattle.std.proofs.lemmas.List.Elements.{Contains-append_left, Contains-append_right, Contains-append_cases, Contains-push, Contains-push_cases}
@@ -81,8 +81,8 @@ distinct names (first ∷ occurring) h = distinct (with_name names first) occurr
 
 pub returns-clause-each : goal.returns-clause-each
 returns-clause-each c = λ occurring name. (
-    (λ h. ⊎_elim (λ (none : Contains [] name). absurd (omega (arith, none.1))) (λ here. here) (occurs [] occurring name h)),
-    numbered [] occurring name,
+  (λ h. ⊎_elim (λ (none : Contains [] name). absurd (omega (arith, none.1))) (λ here. here) (occurs [] occurring name h)),
+  numbered [] occurring name,
 )
 
 pub returns-clause-once : goal.returns-clause-once
