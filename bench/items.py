@@ -3,15 +3,9 @@
 them, brackets alone side by side, and brackets alone 256 deep. Prints for each the least seconds of
 five readings and the nanoseconds a byte. Of one kind the last are to stay the same as texts grow,
 but for memory: a reading whose memory the system hands out anew takes up to twice as long.
-
-The driver is written to a temporary repository and built there by `rt run`, which proves it and the
-crates below it first: that takes some minutes, and is not measured.
 """
 
-import pathlib
-import shutil
-import subprocess
-import tempfile
+from driver import run_driver
 
 DRIVER = """#![tactic(auto)]
 
@@ -79,29 +73,4 @@ fn main(rt: HostRuntime) -> Result<()> {
 }
 """
 
-
-def main():
-    repository = pathlib.Path(__file__).resolve().parent.parent
-    with tempfile.TemporaryDirectory() as folder:
-        crates = pathlib.Path(folder) / "crates"
-        for name in ["ofn_lex", "el_logic", "ofn_term"]:
-            shutil.copytree(
-                repository / "crates" / name, crates / name, ignore=shutil.ignore_patterns("out")
-            )
-        (crates / "bench_items" / "src").mkdir(parents=True)
-        (crates / "bench_items" / "src" / "main.rt").write_text(DRIVER)
-        (pathlib.Path(folder) / "crates.txt").write_text(
-            "ofn_lex: thiserror\nel_logic: sqlite_items\nofn_term: ofn_lex el_logic thiserror\n"
-            "bench_items: ofn_term anyhow\n"
-        )
-        run = subprocess.run(
-            ["rt", "run", "--jobs", "2"],
-            cwd=crates / "bench_items",
-            capture_output=True,
-            text=True,
-        )
-        lines = [line for line in run.stdout.splitlines() if " ns a byte" in line]
-        print("\n".join(lines) if lines else run.stdout + run.stderr)
-
-
-main()
+run_driver("bench_items", DRIVER, ["ofn_term"], " ns a byte")

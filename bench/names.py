@@ -1,14 +1,7 @@
 #!/usr/bin/env python3
-"""Numbers 100,000 names with a NameTable, finds each again, and prints the seconds of both.
+"""Numbers 100,000 names with a NameTable, finds each again, and prints the seconds of both."""
 
-The driver is written to a temporary repository and built there by `rt run`, which proves it and
-the crate below it first: that takes some minutes, and is not measured.
-"""
-
-import pathlib
-import shutil
-import subprocess
-import tempfile
+from driver import run_driver
 
 DRIVER = """#![tactic(auto)]
 
@@ -42,22 +35,4 @@ fn main(rt: HostRuntime) -> Result<()> {
 }
 """
 
-
-def main():
-    repository = pathlib.Path(__file__).resolve().parent.parent
-    with tempfile.TemporaryDirectory() as folder:
-        crates = pathlib.Path(folder) / "crates"
-        shutil.copytree(repository / "crates" / "text_names", crates / "text_names")
-        (crates / "bench_names" / "src").mkdir(parents=True)
-        (crates / "bench_names" / "src" / "main.rt").write_text(DRIVER)
-        (pathlib.Path(folder) / "crates.txt").write_text(
-            "text_names: thiserror indexmap\nbench_names: text_names anyhow\n"
-        )
-        run = subprocess.run(
-            ["rt", "run"], cwd=crates / "bench_names", capture_output=True, text=True
-        )
-        lines = [line for line in run.stdout.splitlines() if " names: " in line]
-        print("\n".join(lines) if lines else run.stdout + run.stderr)
-
-
-main()
+run_driver("bench_names", DRIVER, ["text_names"], " names: ")

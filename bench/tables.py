@@ -2,15 +2,9 @@
 """Reads long confidences and long headers, ranks many confidences, and prints for each the least
 seconds of five runs and the nanoseconds a byte or a row. These are to be nearly the same for each
 size of a kind: reading is linear, and ranking grows as n log n.
-
-The driver is written to a temporary repository and built there by `rt run`, which proves it and
-the crates below it first: that takes some minutes, and is not measured.
 """
 
-import pathlib
-import shutil
-import subprocess
-import tempfile
+from driver import run_driver
 
 DRIVER = """#![tactic(auto)]
 
@@ -128,29 +122,4 @@ fn main(rt: HostRuntime) -> Result<()> {
 }
 """
 
-
-def main():
-    repository = pathlib.Path(__file__).resolve().parent.parent
-    with tempfile.TemporaryDirectory() as folder:
-        crates = pathlib.Path(folder) / "crates"
-        for name in ["text_names", "rank_order", "sssom_head"]:
-            shutil.copytree(
-                repository / "crates" / name, crates / name, ignore=shutil.ignore_patterns("out")
-            )
-        (crates / "bench_tables" / "src").mkdir(parents=True)
-        (crates / "bench_tables" / "src" / "main.rt").write_text(DRIVER)
-        (pathlib.Path(folder) / "crates.txt").write_text(
-            "text_names: thiserror indexmap\nrank_order:\nsssom_head: text_names thiserror\n"
-            "bench_tables: rank_order sssom_head anyhow\n"
-        )
-        run = subprocess.run(
-            ["rt", "run", "--jobs", "2"],
-            cwd=crates / "bench_tables",
-            capture_output=True,
-            text=True,
-        )
-        lines = [line for line in run.stdout.splitlines() if " ns each" in line]
-        print("\n".join(lines) if lines else run.stdout + run.stderr)
-
-
-main()
+run_driver("bench_tables", DRIVER, ["rank_order", "sssom_head"], " ns each")

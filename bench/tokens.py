@@ -2,15 +2,9 @@
 """Reads made texts of one to eight megabytes to their end, token by token, and prints for each the
 least seconds of five readings, the megabytes a second and the nanoseconds a byte. The last are to
 be the same for each text.
-
-The driver is written to a temporary repository and built there by `rt run`, which proves it and
-the crate below it first: that takes some minutes, and is not measured.
 """
 
-import pathlib
-import shutil
-import subprocess
-import tempfile
+from driver import run_driver
 
 DRIVER = """#![tactic(auto)]
 
@@ -74,27 +68,4 @@ fn main(rt: HostRuntime) -> Result<()> {
 }
 """
 
-
-def main():
-    repository = pathlib.Path(__file__).resolve().parent.parent
-    with tempfile.TemporaryDirectory() as folder:
-        crates = pathlib.Path(folder) / "crates"
-        shutil.copytree(
-            repository / "crates" / "ofn_lex", crates / "ofn_lex", ignore=shutil.ignore_patterns("out")
-        )
-        (crates / "bench_tokens" / "src").mkdir(parents=True)
-        (crates / "bench_tokens" / "src" / "main.rt").write_text(DRIVER)
-        (pathlib.Path(folder) / "crates.txt").write_text(
-            "ofn_lex: thiserror\nbench_tokens: ofn_lex anyhow\n"
-        )
-        run = subprocess.run(
-            ["rt", "run", "--jobs", "2"],
-            cwd=crates / "bench_tokens",
-            capture_output=True,
-            text=True,
-        )
-        lines = [line for line in run.stdout.splitlines() if " ns a byte" in line]
-        print("\n".join(lines) if lines else run.stdout + run.stderr)
-
-
-main()
+run_driver("bench_tokens", DRIVER, ["ofn_lex"], " ns a byte")
