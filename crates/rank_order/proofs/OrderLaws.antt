@@ -1,5 +1,5 @@
 -- Rows in the order of their confidence.
-use Rattle.std.proofs.Common.{◌≡◌, ◌≢◌, true≢false, ℕ, zero, suc, ◌<◌, ◌≤◌, ◌+◌, Bool, true, false, cond, List, [], ◌∷◌, length, get_or, slice_index, ⊎_elim, inl, inr, subst, sym, ap, ◌∙◌, nat_eq, zero-add, arith}
+use Rattle.std.proofs.Common.{◌≡◌, ◌≢◌, true≢false, ℕ, zero, suc, ◌<◌, ◌≤◌, ◌+◌, Bool, true, false, cond, List, [], ◌∷◌, length, map, All, get_or, slice_index, refl, ⊎_elim, inl, inr, subst, sym, ap, ◌∙◌, nat_eq, zero-add, arith}
 use Rattle.std.specs.List.{range_with_len, count_by, IsDistinct}
 use Rattle.std.specs.List.Sorted.{IsPermutation, IsSortedBy}
 use Rattle.std.specs.Cmp.{IsStrictWeakOrder}
@@ -7,8 +7,10 @@ use Rattle.std.proofs.lemmas.Bool.{cases_lt, cases_eq, eqb-false, ne_eqb}
 use Rattle.std.proofs.lemmas.List.FromFn.{length-range_with_len, get_or-range_with_len}
 use Rattle.std.proofs.lemmas.Grind.{get_or_default_zero}
 use Rattle.std.proofs.lemmas.Bool.Decides.{nat_tests}
+use Rattle.std.proofs.lemmas.List.{length-map, get_or-map}
+use Rattle.std.proofs.lemmas.List.Elements.{All-map, All-from_get_or, All-get_or}
 use Rattle.std.proofs.lemmas.List.Sums.{sum_by-cons}
-use Rattle.std.proofs.lemmas.List.Sorted.{sum_by-IsPermutation, Contains-permutation}
+use Rattle.std.proofs.lemmas.List.Sorted.{sum_by-IsPermutation, Contains-permutation, All-permutation, IsPermutation-map}
 use Rattle.std.proofs.lemmas.Map.Keys.{IsDistinct-from_apart, IsDistinct-IsPermutation, apart_from_distinct}
 use Rattle.rank_order.specs.declared.order.RankKey.{RankKey}
 use Rattle.rank_order.specs.Order.{IsBefore, is_before, key_at, rank_of, IsRanking}
@@ -93,15 +95,8 @@ before_one_way a b before = grind (arith, nat_tests)
 before_chain : (a b c : RankKey) → is_before a b ≡ false → is_before b c ≡ false → is_before a c ≡ false
 before_chain a b c first second = grind (arith, nat_tests)
 
--- the test by which rows are sorted
-abbrev pub stands_before : List ℕ → ℕ → ℕ → Bool
-stands_before confidences a b = is_before (key_at confidences a) (key_at confidences b)
-
-pub stands_in_order : (confidences : List ℕ) → IsStrictWeakOrder (stands_before confidences)
-stands_in_order confidences = record {
-  one_way = λ a b. before_one_way (key_at confidences a) (key_at confidences b);
-  chain = λ a b c. before_chain (key_at confidences a) (key_at confidences b) (key_at confidences c);
-}
+pub in_one_order : IsStrictWeakOrder is_before
+in_one_order = record { one_way = before_one_way; chain = before_chain }
 
 nat_eq-flips : (a b : ℕ) → nat_eq a b ≡ nat_eq b a
 nat_eq-flips a b = ⊎_elim (λ same. grind (arith, nat_tests)) (λ differs. grind (arith, nat_tests)) (cases_eq a b)
@@ -113,13 +108,44 @@ numbers_differ count = IsDistinct-from_apart nat_eq (range_with_len 0 count)
     ne_eqb (get_or (range_with_len 0 count) i d) (get_or (range_with_len 0 count) j d)
     (λ same. omega (arith, get_or-range_with_len 0 count i d (omega arith), get_or-range_with_len 0 count j d within)))
 
--- rows that are sorted by that test are ranked
-pub ranking_from_sort : (confidences rows : List ℕ) → IsPermutation (range_with_len 0 (length confidences)) rows → IsSortedBy (stands_before confidences) rows → IsRanking confidences rows
-ranking_from_sort confidences rows each_once sorted = record {
-  each_once = each_once;
-  in_order = λ k within.
-      let distinct = IsDistinct-IsPermutation nat_eq nat_eq-flips (range_with_len 0 (length confidences)) rows each_once (numbers_differ (length confidences)) in
-      one_before (key_at confidences (slice_index rows k)) (key_at confidences (slice_index rows (k + 1)))
-      (eqb-false (slice_index rows k) (slice_index rows (k + 1)) (apart_from_distinct nat_eq rows k (k + 1) 0 distinct (omega arith) within))
-      (sorted k 0 (omega arith) within);
-}
+rows_of_keys : (confidences numbers : List ℕ) → map (λ (key : RankKey). key.row) (map (key_at confidences) numbers) ≡ numbers
+rows_of_keys confidences [] = refl
+rows_of_keys confidences (n ∷ ns) = ap (λ (l : List ℕ). n ∷ l) (rows_of_keys confidences ns)
+
+-- keys of all rows that are sorted by that test rank the rows
+module _ (confidences : List ℕ) (keys : List RankKey) (each_once : IsPermutation (map (key_at confidences) (range_with_len 0 (length confidences))) keys) (sorted : IsSortedBy is_before keys) where
+  abbrev IsOwn : RankKey → Type 0
+  IsOwn key = key_at confidences key.row ≡ key
+
+  abbrev numbers : List ℕ
+  numbers = range_with_len 0 (length confidences)
+
+  own : All IsOwn keys
+  own = All-permutation IsOwn (map (key_at confidences) numbers) keys each_once (All-map IsOwn (key_at confidences) numbers (All-from_get_or (λ row. IsOwn (key_at confidences row)) numbers 0 (λ i within. refl)))
+
+  rows_once : IsPermutation numbers (map (λ (key : RankKey). key.row) keys)
+  rows_once =
+      subst (λ (ns : List ℕ). IsPermutation ns (map (λ (key : RankKey). key.row) keys)) (rows_of_keys confidences numbers)
+      (IsPermutation-map (λ (key : RankKey). key.row) (map (key_at confidences) numbers) keys each_once)
+
+  abbrev none : RankKey
+  none = key_at confidences 0
+
+  key_is : (k : ℕ) → k < length keys → key_at confidences (slice_index (map (λ (key : RankKey). key.row) keys) k) ≡ get_or keys k none
+  key_is k within = ap (key_at confidences) (get_or-map (λ (key : RankKey). key.row) keys k none 0 within) ∙ All-get_or IsOwn keys k none within own
+
+  pub ranking_from_sort : IsRanking confidences (map (λ (key : RankKey). key.row) keys)
+  ranking_from_sort = record {
+    each_once = rows_once;
+    in_order = λ k within.
+        let rows = map (λ (key : RankKey). key.row) keys in
+        let inside : k + 1 < length keys = omega (arith, within, length-map keys (λ (key : RankKey). key.row)) in
+        let distinct = IsDistinct-IsPermutation nat_eq nat_eq-flips numbers rows rows_once (numbers_differ (length confidences)) in
+        let before : is_before (key_at confidences (slice_index rows (k + 1))) (key_at confidences (slice_index rows k)) ≡ false =
+        ap (λ (key : RankKey). is_before key (key_at confidences (slice_index rows k))) (key_is (k + 1) inside)
+        ∙ ap (is_before (get_or keys (k + 1) none)) (key_is k (omega arith))
+        ∙ sorted k none (omega arith) inside
+        in
+        one_before (key_at confidences (slice_index rows k)) (key_at confidences (slice_index rows (k + 1)))
+        (eqb-false (slice_index rows k) (slice_index rows (k + 1)) (apart_from_distinct nat_eq rows k (k + 1) 0 distinct (omega arith) within)) before;
+  }
