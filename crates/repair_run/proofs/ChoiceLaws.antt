@@ -13,7 +13,8 @@ use Rattle.plain_logic.specs.declared.axioms.PlainAxiom.{PlainAxiom}
 use Rattle.plain_logic.specs.declared.axioms.PlainAxiom.TheVariants.{SubClass, Disjoint}
 use Rattle.plain_logic.specs.declared.axioms.PlainRow.{PlainRow}
 use Rattle.plain_logic.specs.Plain.{NamesBelow, RowBelow, names_below, row_below, row_at, axioms_of_row}
-use Rattle.repair_run.specs.Choice.{rows_at, AreMarked}
+use Rattle.repair_run.specs.Choice.{AreMarked}
+use Rattle.repair_run.specs.Diagnosis.{rows_at}
 
 -- names stay within more classes
 pub names_stay : (n m : ℕ) (p : PlainAxiom) → n ≤ m → NamesBelow n p → NamesBelow m p

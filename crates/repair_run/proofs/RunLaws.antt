@@ -13,7 +13,7 @@ use Rattle.repair_run.specs.Choice.{IsChosen}
 use Rattle.repair_run.specs.Words.{FileNames}
 use Rattle.repair_run.specs.Texts.{AreRead, IsUnbuilt, Texts}
 use Rattle.repair_run.specs.Plan.{Plan, Refused, plan, Ready, IsLoaded}
-use Rattle.repair_run.specs.Axioms.{AreCoherentTogether, IsFoundIn}
+use Rattle.repair_run.specs.Axioms.{axioms_of_both, class_names, AreCoherentTogether, IsFoundIn}
 use Rattle.repair_run.specs.Diagnosis.{IsDiagnosisStop}
 use Rattle.repair_run.proofs.PlanLaws.{read_ready, unbuilt_refused}
 use Rattle.repair_run.proofs.FoundLaws.{one_found_in, found_incoherent}
@@ -67,9 +67,9 @@ module _ (o : Option Files) (names : FileNames) (left right : DocumentText) (tab
   diagnosis_stop rd rd' w w' p q (Status.WriteFault target) h = absurd h
   diagnosis_stop rd rd' w w' p q (Status.Unbuilt file) h = absurd h
 
-  module _ (keep : List Bool) (inert : ℕ) (each : length keep ≡ length table.rows) (chosen : IsChosen left right table keep inert) (text line : List ℕ) (writes : text ≡ repaired_text table keep) (says : line ≡ summary_text (length table.rows) (kept_count keep) inert) where
+  module _ (keep : List Bool) (inert : ℕ) (each : length keep ≡ length table.rows) (chosen : IsChosen (class_names left right) (axioms_of_both left right) table keep inert) (text line : List ℕ) (writes : text ≡ repaired_text table keep) (says : line ≡ summary_text (length table.rows) (kept_count keep) inert) where
     abbrev outcome : (files : Files) → o ≡ Some files → Outcome files names
-    outcome files e = record { texts = texts files e; rows = record { keep = keep; inert = inert; each_row = each; chosen = chosen } }
+    outcome files e = record { left = left; right = right; table = table; read = use_told o (λ f. AreRead f names left right table) files e loaded; keep = keep; inert = inert; each_row = each; chosen = chosen }
 
     repairable : IsRepairable o names
     repairable = told o _ (λ files e. (texts files e, chosen.coherent))
@@ -217,14 +217,17 @@ incoherent_answer None a b c d p q names part iri s s' h m = tt
 incoherent_answer (Some files) a b c d p q names part iri s s' h m = λ u. or_memory (Status.Incoherent part iri) s s' m (incoherent_stop files names a b c d p q part iri s u h)
 
 -- a run that is done has found no part incoherent and no file unbuilt
+abbrev texts_of : (files : Files) (names : FileNames) → Outcome files names → Texts files names
+texts_of files names o = record { left = o.left; right = o.right; table = o.table; read = o.read }
+
 pub done_unbuilt : (o new : Option Files) (got_old got_new : Option (List ℕ)) (names : FileNames) (role : Role) (s : Status) → IsDone o new got_old got_new names → IfSome o (λ files. IsUnbuilt files names role → IsOrReadStop (Status.Unbuilt role) s)
 done_unbuilt None new got_old got_new names role s h = tt
-done_unbuilt (Some files) new got_old got_new names role s h = λ u. absurd (unbuilt_texts files names role u h.0.texts)
+done_unbuilt (Some files) new got_old got_new names role s h = λ u. absurd (unbuilt_texts files names role u (texts_of files names h.0))
 
 pub done_incoherent : (o new : Option Files) (got_old got_new : Option (List ℕ)) (names : FileNames) (part : Part) (iri : List ℕ) (s : Status) → IsDone o new got_old got_new names →
     IfSome o (λ files. IsIncoherentCase files names part iri → IsOrReadStop (Status.Incoherent part iri) s)
 done_incoherent None new got_old got_new names part iri s h = tt
-done_incoherent (Some files) new got_old got_new names part iri s h = λ u. absurd (no_repair files names part iri u h.0.texts h.0.rows.chosen.coherent)
+done_incoherent (Some files) new got_old got_new names part iri s h = λ u. absurd (no_repair files names part iri u (texts_of files names h.0) h.0.chosen.coherent)
 
 -- the files stand after want of memory in place of another answer
 memory_files : (o new : Option Files) (a b c d : List ℕ → ℕ) (p q : ℕ) (names : FileNames) (s : Status) → IsStop o a b c d p q names s → FilesStand o new (c names.out) (d names.out) names s → FilesStand o new (c names.out) (d names.out) names Status.OutOfMemory

@@ -6,7 +6,7 @@ use Rattle.el_logic.specs.declared.types.Axiom.{Axiom}
 use Rattle.el_logic.specs.declared.types.Axiom.TheVariants as Full
 use Rattle.el_logic.specs.declared.types.Part.{Part}
 use Rattle.el_logic.specs.declared.types.Side.{Side}
-use Rattle.el_logic.specs.Incoherent.{IsIncoherent, IsCoherent, IsFirstIncoherent}
+use Rattle.el_logic.specs.Incoherent.{IsCoherent, IsFirstIncoherent}
 use Rattle.text_names.specs.Names.{number_of, number_or_next, with_name}
 use Rattle.repair_run.specs.declared.first_form.AxiomText.{AxiomText}
 use Rattle.repair_run.specs.declared.first_form.AxiomText.TheVariants.{SubClass, Disjoint, Declared}
@@ -76,10 +76,6 @@ axioms_ranked names table order = map (λ row. slice_index_or (map (row_axioms n
 -- the axioms of documents, and with them those of the rows at these ranks
 abbrev pub axioms_with : List (List ℕ) → List Axiom → TableText → List ℕ → List ℕ → List Axiom
 axioms_with names documents table order ranks = documents ++ flat_map (λ rank. slice_index_or (axioms_ranked names table order) rank []) ranks
-
--- together they leave a class empty
-abbrev pub AreIncoherentWith : List (List ℕ) → List Axiom → TableText → List ℕ → List ℕ → Type 0
-AreIncoherentWith names documents table order ranks = IsIncoherent (length names) 0 (axioms_with names documents table order ranks)
 
 -- the axioms of both documents
 abbrev pub axioms_of_both : DocumentText → DocumentText → List Axiom

@@ -9,9 +9,9 @@ use Rattle.repair_run.specs.declared.first_form.TableText.{TableText}
 use Rattle.repair_run.specs.declared.status.Status.{Status}
 use Rattle.repair_run.specs.FirstForm.{repaired_text}
 use Rattle.repair_run.specs.Status.{refusal_line}
-use Rattle.repair_run.specs.Axioms.{AreCoherentTogether, IsFoundIn}
+use Rattle.repair_run.specs.Axioms.{axioms_of_both, class_names, AreCoherentTogether, IsFoundIn}
 use Rattle.repair_run.specs.Choice.{IsChosen}
-use Rattle.repair_run.specs.Texts.{Texts, IsReached, IsUnbuilt}
+use Rattle.repair_run.specs.Texts.{AreRead, Texts, IsReached, IsUnbuilt}
 use Rattle.repair_run.specs.Words.{FileNames, name_of}
 
 -- the summary: how many rows there are, are kept, are removed and are inert, and that no axiom was omitted
@@ -22,23 +22,22 @@ summary_text rows kept inert =
 abbrev pub kept_count : List Bool → ℕ
 kept_count keep = count_by (λ k. k) keep
 
--- the rows to keep, row by row, and how many rows are inert
-pub record Kept (left right : DocumentText) (table : TableText) : Type 0 where
+-- what is read of the files, and which of the rows are kept
+pub record Outcome (files : Files) (names : FileNames) : Type 0 where
+  pub left : DocumentText
+  pub right : DocumentText
+  pub table : TableText
+  pub read : AreRead files names left right table
   pub keep : List Bool
   pub inert : ℕ
   pub each_row : length keep ≡ length table.rows
-  pub chosen : IsChosen left right table keep inert
-
--- what is read, and what is kept of it
-pub record Outcome (files : Files) (names : FileNames) : Type 0 where
-  pub texts : Texts files names
-  pub rows : Kept texts.left texts.right texts.table
+  pub chosen : IsChosen (class_names left right) (axioms_of_both left right) table keep inert
 
 abbrev pub out_text : {files : Files} {names : FileNames} → Outcome files names → List ℕ
-out_text o = repaired_text o.texts.table o.rows.keep
+out_text o = repaired_text o.table o.keep
 
 abbrev pub summary_of : {files : Files} {names : FileNames} → Outcome files names → List ℕ
-summary_of o = summary_text (length o.texts.table.rows) (kept_count o.rows.keep) o.rows.inert
+summary_of o = summary_text (length o.table.rows) (kept_count o.keep) o.inert
 
 -- OUT holds the repaired table, no other file has changed, and the output has got the summary
 abbrev pub IsDone : Option Files → Option Files → Option (List ℕ) → Option (List ℕ) → FileNames → Type 0

@@ -28,5 +28,5 @@ is_file_name (b ∷ bs) = not (b == 45)
 abbrev pub names_given : List (List ℕ) → Option FileNames
 names_given (left ∷ right ∷ map ∷ out ∷ []) =
     if is_file_name left && is_file_name right && is_file_name map && is_file_name out && not (bytes_eq out left || bytes_eq out right || bytes_eq out map)
-    then Some (file_names left right map out) else None
+    then Some (record { left = left; right = right; map = map; out = out }) else None
 names_given _ = None

@@ -3,9 +3,9 @@ ghost use Rattle.std.specs.Prelude.{◌≡◌, ◌<◌, ◌^◌, ◌++◌, ◌�
 ghost use Rattle.rank_order.specs.Order.{IsRanking};
 ghost use Rattle.plain_logic.specs.Plain.{NamesBelow, RowBelow, row_at};
 ghost use Rattle.plain_logic.specs.Theory.{AreCoherent};
-ghost use Rattle.repair_run.specs.Axioms.{row_axioms};
-ghost use Rattle.repair_run.specs.Choice.{confidence_of, confidences_of, rows_at, AreMarked, IsChosen, IsChosenOver};
-ghost use Rattle.repair_run.specs.Diagnosis.{IsAxiomStop, IsDiagnosisStop, IsPartStop};
+ghost use Rattle.repair_run.specs.Axioms.{axioms_of_both, class_names, row_axioms};
+ghost use Rattle.repair_run.specs.Choice.{confidence_of, AreMarked, IsChosen};
+ghost use Rattle.repair_run.specs.Diagnosis.{confidences_of, rows_at, IsAxiomStop, IsDiagnosisStop, IsPartStop};
 ghost use Rattle.repair_run.specs.FirstForm.{AreOfForm, IsRowText};
 ghost use Rattle.repair_run.specs.Run.{kept_count};
 ghost use Rattle.repair_run.specs.Stated.{silent_count, stated_all, stated_by};
@@ -192,7 +192,7 @@ fn chosen(
     requires coherent { AreCoherent (length names.now.names) base.items }
     requires form { All IsRowText table.now.rows }
     ensures each { IfOk result (λ d. length d.keep.items ≡ length table.now.rows) }
-    ensures chosen { IfOk result (λ d. IsChosenOver names.now.names (stated_all base.items) table.now d.keep.items d.inert) }
+    ensures chosen { IfOk result (λ d. IsChosen names.now.names (stated_all base.items) table.now d.keep.items d.inert) }
     ensures kept { IfOk result (λ d. d.kept ≡ kept_count d.keep.items) }
 {
     let texts = table.rows.as_slice();
@@ -222,7 +222,7 @@ pub fn diagnose(
 ) -> Result<Diagnosis, Status>
     requires { AreOfForm left.now right.now table.now }
     ensures each { IfOk result (λ d. length d.keep.items ≡ length table.now.rows) }
-    ensures chosen { IfOk result (λ d. IsChosen left.now right.now table.now d.keep.items d.inert) }
+    ensures chosen { IfOk result (λ d. IsChosen (class_names left.now right.now) (axioms_of_both left.now right.now) table.now d.keep.items d.inert) }
     ensures kept { IfOk result (λ d. d.kept ≡ kept_count d.keep.items) }
     ensures err { IfErr result (IsDiagnosisStop left.now right.now) }
 {

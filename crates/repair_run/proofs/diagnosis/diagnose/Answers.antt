@@ -1,7 +1,7 @@
 use Rattle.std.proofs.Common.{◌∙◌, ℕ, List, ◌++◌, ap, subst}
 use Rattle.el_logic.specs.declared.types.Axiom.{Axiom}
 use Rattle.repair_run.specs.Axioms.{class_names}
-use Rattle.repair_run.specs.Choice.{IsChosenOver}
+use Rattle.repair_run.specs.Choice.{IsChosen}
 use Rattle.repair_run.specs.Diagnosis.{IsAxiomStop}
 use Rattle.repair_run.specs.Stated.{stated_all}
 use Rattle.repair_run.proofs.DiagnosisLaws.{all_names, both_axioms, diagnosis_stop}
@@ -31,5 +31,5 @@ returns-clause-chosen c =
     c.in_ok-left.ensures.axioms c.in_ok-right.ensures.axioms base both in
     let named = all_names l r c.new-names.result.names c.plain_axioms.new.names.names names left right c.new-names.ensures.names c.in_ok-left.ensures.names c.in_ok-right.ensures.names
     c.in_ok-left.ensures.axioms c.in_ok-right.ensures.axioms in
-    subst (λ (documents : List Axiom). IsChosenOver (class_names l r) documents c.args.table.now keep inert) axioms
-    (subst (λ (n : List (List ℕ)). IsChosenOver n (stated_all base) c.args.table.now keep inert) named c.in_ok-chosen.ensures.chosen)
+    subst (λ (documents : List Axiom). IsChosen (class_names l r) documents c.args.table.now keep inert) axioms
+    (subst (λ (n : List (List ℕ)). IsChosen n (stated_all base) c.args.table.now keep inert) named c.in_ok-chosen.ensures.chosen)
