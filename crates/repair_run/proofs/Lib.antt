@@ -11,3 +11,4 @@ pub mod DiagnosisLaws
 pub mod FamilyLaws
 pub mod FoundLaws
 pub mod ChoiceLaws
+pub mod OutcomeLaws

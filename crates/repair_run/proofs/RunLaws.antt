@@ -149,8 +149,11 @@ ready_refused role left right table p e f = let h : Ready left right table ≡ R
 same_refused : (a b : Role) (p : Plan) → p ≡ Refused a → p ≡ Refused b → a ≡ b
 same_refused a b p e f = let h : Refused a ≡ Refused b = sym e ∙ f in cc
 
-same_ready : (l l' r r' : DocumentText) (t t' : TableText) (p : Plan) → p ≡ Ready l r t → p ≡ Ready l' r' t' → (l ≡ l') × (r ≡ r')
-same_ready l l' r r' t t' p e f = let h : Ready l r t ≡ Ready l' r' t' = sym e ∙ f in (cc, cc)
+same_ready : (l l' r r' : DocumentText) (t t' : TableText) (p : Plan) → p ≡ Ready l r t → p ≡ Ready l' r' t' → (l ≡ l') × (r ≡ r') × (t ≡ t')
+same_ready l l' r r' t t' p e f = let h : Ready l r t ≡ Ready l' r' t' = sym e ∙ f in (cc, cc, cc)
+
+pub same_read : (files : Files) (names : FileNames) (l l' r r' : DocumentText) (t t' : TableText) → AreRead files names l r t → AreRead files names l' r' t' → (l ≡ l') × (r ≡ r') × (t ≡ t')
+same_read files names l l' r r' t t' h k = same_ready l l' r r' t t' (plan files names) (read_ready files names l r t h) (read_ready files names l' r' t' k)
 
 module _ (files : Files) (names : FileNames) where
   texts_ready : (t : Texts files names) → plan files names ≡ Ready t.left t.right t.table
@@ -162,8 +165,8 @@ module _ (files : Files) (names : FileNames) where
   same_role : (a b : Role) → IsUnbuilt files names a → IsUnbuilt files names b → a ≡ b
   same_role a b u v = same_refused a b (plan files names) (unbuilt_refused files names a u) (unbuilt_refused files names b v)
 
-  same_documents : (t u : Texts files names) → (t.left ≡ u.left) × (t.right ≡ u.right)
-  same_documents t u = same_ready t.left u.left t.right u.right t.table u.table (plan files names) (texts_ready t) (texts_ready u)
+  same_documents : (t u : Texts files names) → (t.left ≡ u.left) × (t.right ≡ u.right) × (t.table ≡ u.table)
+  same_documents t u = same_read files names t.left u.left t.right u.right t.table u.table t.read u.read
 
   -- where a file can't be taken, a run that stops says so, or a fault of a read or want of memory came first
   refused_stop : (a b c d : List ℕ → ℕ) (p q : ℕ) (role : Role) (s : Status) → IsUnbuilt files names role → IsStop (Some files) a b c d p q names s → IsOrReadStop (Status.Unbuilt role) s

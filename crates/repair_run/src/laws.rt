@@ -1,5 +1,6 @@
 //! Laws on the forms of texts, and on what documents and tables say.
 ghost use Rattle.std.specs.Prelude.{◌≡◌, ◌↔◌, ℕ, List, [], ◌∷◌, Contains, Some, codes, map};
+ghost use Rattle.io_edge.specs.Outside.{Files};
 ghost use Rattle.text_names.specs.NameKeys.{AreDistinct};
 ghost use Rattle.el_logic.specs.declared.types.Axiom.TheVariants.{SubClass, Disjoint};
 ghost use Rattle.el_logic.specs.declared.types.Expr.TheVariants.{Name};
@@ -8,7 +9,11 @@ ghost use Rattle.repair_run.specs.declared.first_form.TableText.{TableText};
 ghost use Rattle.repair_run.specs.Axioms.{axioms_of_both, axioms_with, class_names, inert_count, row_axioms, with_names};
 ghost use Rattle.repair_run.specs.FirstForm.{IsDocumentText, IsTableText};
 ghost use Rattle.repair_run.specs.Reading.{document_of, table_of};
+ghost use Rattle.repair_run.specs.Run.{Outcome, out_text, summary_of};
+ghost use Rattle.repair_run.specs.Words.{FileNames};
 ghost use Rattle.repair_run.specs.Worked.{worked_left, worked_right, worked_table};
+
+use rank_order::ranking_lists_by_rank;
 
 /// A text is read as a document exactly where it is spelled as that document; so it is spelled as one at most.
 pub fn documents_are_read_as_spelled()
@@ -36,3 +41,11 @@ pub fn a_small_case_says_its_axioms()
     ensures inert { inert_count (class_names worked_left worked_right) worked_table ≡ 1 }
     ensures with_a_rank { axioms_with (class_names worked_left worked_right) [] worked_table (0 ∷ 1 ∷ 2 ∷ []) (1 ∷ []) ≡ SubClass (Name 1) (Name 3) ∷ [] }
 {}
+
+/// What a run leaves is determined by its files: they have one outcome at most, so one text of OUT and one summary.
+pub fn files_have_one_outcome()
+    ensures out { (files : Files) (names : FileNames) (one other : Outcome files names) → out_text one ≡ out_text other }
+    ensures summary { (files : Files) (names : FileNames) (one other : Outcome files names) → summary_of one ≡ summary_of other }
+{
+    ranking_lists_by_rank();
+}

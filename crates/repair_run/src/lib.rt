@@ -17,8 +17,8 @@ mod words;
 
 pub use first_form::{AxiomText, Curie, DocumentText, Predicate, RowText, TableText};
 pub use laws::{
-    a_small_case_says_its_axioms, documents_are_read_as_spelled, names_are_numbered_as_they_occur,
-    tables_are_read_as_spelled,
+    a_small_case_says_its_axioms, documents_are_read_as_spelled, files_have_one_outcome,
+    names_are_numbered_as_they_occur, tables_are_read_as_spelled,
 };
 pub use run::repair;
 pub use status::Status;
