@@ -97,26 +97,25 @@ fn time_rank(rt: &HostRuntime, confidences: &[Confidence]) -> Result<f64> {
     Ok(least)
 }
 
+fn print_cost(rt: &HostRuntime, what: &str, count: usize, unit: &str, seconds: f64) -> Result<()> {
+    let cost = seconds * 1e9 / u32::try_from(count)? as f64;
+    println!(rt; "{what} {count} {unit}: {seconds:.4} s, {cost:.2} ns each")?;
+    Ok(())
+}
+
 fn main(rt: HostRuntime) -> Result<()> {
     for size in [1_000_000usize, 2_000_000, 4_000_000, 8_000_000] {
-        let text = made_confidence(rt.alloc(), size)?;
-        let seconds = time_confidence(&rt, text.as_slice())?;
-        let bytes = u32::try_from(text.len())?;
-        let cost = seconds * 1e9 / bytes as f64;
-        println!(rt; "confidence of {bytes} bytes: {seconds:.4} s, {cost:.2} ns each")?;
-    }
-    for size in [1_000_000usize, 2_000_000, 4_000_000, 8_000_000] {
-        let text = made_header(rt.alloc(), size)?;
-        let seconds = time_header(&rt, text.as_slice())?;
-        let bytes = u32::try_from(text.len())?;
-        let cost = seconds * 1e9 / bytes as f64;
-        println!(rt; "header of {bytes} bytes: {seconds:.4} s, {cost:.2} ns each")?;
+        let confidence = made_confidence(rt.alloc(), size)?;
+        let seconds = time_confidence(&rt, confidence.as_slice())?;
+        print_cost(&rt, "confidence of", confidence.len(), "bytes", seconds)?;
+        let header = made_header(rt.alloc(), size)?;
+        let seconds = time_header(&rt, header.as_slice())?;
+        print_cost(&rt, "header of", header.len(), "bytes", seconds)?;
     }
     for count in [100_000u32, 200_000, 400_000, 800_000] {
         let confidences = made_confidences(rt.alloc(), count)?;
         let seconds = time_rank(&rt, confidences.as_slice())?;
-        let cost = seconds * 1e9 / count as f64;
-        println!(rt; "ranking of {count} rows: {seconds:.4} s, {cost:.2} ns each")?;
+        print_cost(&rt, "ranking of", confidences.len(), "rows", seconds)?;
     }
     Ok(())
 }

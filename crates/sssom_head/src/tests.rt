@@ -96,76 +96,62 @@ fn ends_with_the_last_line_that_begins_with_hash(rt: HostRuntime) -> Result<(), 
 }
 
 #[test]
-fn finds_the_first_fault(rt: HostRuntime) -> Result<(), Fail> {
+fn refuses_lines_that_begin_no_map(rt: HostRuntime) -> Result<(), Fail> {
     let rows = [
-        (
-            b"#curie_map: x\n".as_slice(),
-            HeadFault::MapForm { line: 1 },
-        ),
-        (b"#curie_map: # c\n", HeadFault::MapForm { line: 1 }),
-        (b"#curie_map:\t{}\n", HeadFault::MapForm { line: 1 }),
-        (
-            b"#\n#curie_map:\n# l: a\n#curie_map:\n",
-            HeadFault::MapForm { line: 4 },
-        ),
-        (
-            b"#curie_map: {}\n# curie_map: {}\n",
-            HeadFault::MapForm { line: 2 },
-        ),
-        (
-            b"#curie_map:\n# curie_map: x\n",
-            HeadFault::MapForm { line: 2 },
-        ),
-        (
-            b"#curie_map:\n# l: a\n#  r: b\n",
-            HeadFault::MapForm { line: 3 },
-        ),
-        (
-            b"#curie_map:\n#  l: a\n# r: b\n",
-            HeadFault::MapForm { line: 3 },
-        ),
-        (b"#curie_map:\n# \tl: a\n", HeadFault::MapForm { line: 2 }),
-        (b"#curie_map:\n# l:a\n", HeadFault::MapForm { line: 2 }),
-        (b"#curie_map:\n# l : a\n", HeadFault::MapForm { line: 2 }),
-        (b"#curie_map:\n# l:\n", HeadFault::MapForm { line: 2 }),
-        (b"#curie_map:\n# : a\n", HeadFault::MapForm { line: 2 }),
-        (b"#curie_map:\n# l: a b\n", HeadFault::MapForm { line: 2 }),
-        (b"#curie_map:\n# l: # c\n", HeadFault::MapForm { line: 2 }),
-        (b"#curie_map:\n# l: `a\n", HeadFault::MapForm { line: 2 }),
-        (b"#curie_map:\n# l: 'a'#c\n", HeadFault::MapForm { line: 2 }),
-        (b"#curie_map:\n# l: 'a\n", HeadFault::MapForm { line: 2 }),
-        (
-            b"#curie_map:\n# l: \"a\\\\\"\n",
-            HeadFault::MapForm { line: 2 },
-        ),
-        (
-            b"#curie_map:\n# \"l\\n\": a\n",
-            HeadFault::MapForm { line: 2 },
-        ),
-        (
-            b"#curie_map:\n# \xc3\xa9: a\n",
-            HeadFault::MapForm { line: 2 },
-        ),
-        (b"#curie_map:\n# l: \xff\n", HeadFault::MapForm { line: 2 }),
-        (
-            b"#curie_map:\n# l: a # \xff\n",
-            HeadFault::MapForm { line: 2 },
-        ),
-        (
-            b"#curie_map:\n# l: a\n# l: b\n",
-            HeadFault::Again { line: 3 },
-        ),
-        (
-            b"#curie_map:\n# l: a\n# l: b\n# [\n",
-            HeadFault::Again { line: 3 },
-        ),
+        (b"#curie_map: x\n".as_slice(), 1),
+        (b"#curie_map: # c\n", 1),
+        (b"#curie_map:\t{}\n", 1),
+        (b"#\n#curie_map:\n# l: a\n#curie_map:\n", 4),
+        (b"#curie_map: {}\n# curie_map: {}\n", 2),
+        (b"#curie_map:\n# curie_map: x\n", 2),
+    ];
+    for (bytes, line) in rows {
+        let fault = read_head(rt.alloc(), bytes).err();
+        assert_eq!(rt; fault, Some(HeadFault::MapForm { line }), "{line}");
+    }
+    Ok(())
+}
+
+#[test]
+fn refuses_entries_of_another_form(rt: HostRuntime) -> Result<(), Fail> {
+    let entries = [
+        b" \tl: a".as_slice(),
+        b" l:a",
+        b" l : a",
+        b" l:",
+        b" : a",
+        b" l: a b",
+        b" l: # c",
+        b" l: `a",
+        b" l: 'a'#c",
+        b" l: 'a",
+        b" l: \"a\\\\\"",
+        b" \"l\\n\": a",
+        b" \xc3\xa9: a",
+        b" l: \xff",
+        b" l: a # \xff",
+    ];
+    for entry in entries {
+        let mut bytes = Vec::from_slice(rt.alloc(), b"#curie_map:\n#".as_slice())?;
+        bytes.extend_from_slice(entry)?;
+        let fault = read_head(rt.alloc(), bytes.as_slice()).err();
+        assert_eq!(rt; fault, Some(HeadFault::MapForm { line: 2 }));
+    }
+    Ok(())
+}
+
+#[test]
+fn finds_the_first_fault(rt: HostRuntime) -> Result<(), Fail> {
+    let (form, again) = (HeadFault::MapForm { line: 3 }, HeadFault::Again { line: 3 });
+    let rows = [
+        (b"#curie_map:\n# l: a\n#  r: b\n".as_slice(), form),
+        (b"#curie_map:\n#  l: a\n# r: b\n", form),
+        (b"#curie_map:\n# l: a\n#  l: b\n", form),
+        (b"#curie_map:\n# l: a\n# l: b\n", again),
+        (b"#curie_map:\n# l: a\n# l: b\n# [\n", again),
         (
             b"#curie_map:\n# l: [\n# l: b\n",
             HeadFault::MapForm { line: 2 },
-        ),
-        (
-            b"#curie_map:\n# l: a\n#  l: b\n",
-            HeadFault::MapForm { line: 3 },
         ),
     ];
     for (bytes, fault) in rows {
