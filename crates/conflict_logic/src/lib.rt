@@ -1,6 +1,7 @@
 //! Conflicts, accused ranks and repairs, for any family of incoherent sets of ranks.
 #![tactic(auto)]
 
+pub mod certificate;
 pub mod greedy;
 pub mod repair;
 #[cfg(test)]
