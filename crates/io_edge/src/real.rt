@@ -1,7 +1,9 @@
-ghost use Rattle.std.specs.Prelude.{◌≡◌, ◌≢◌, ◌<◌, ◌-◌, ◌^◌, ◌≤◌, length, vec_len, None, IfOk, IfSome, OnOk};
+//! The system's files and output.
+ghost use Rattle.std.specs.Prelude.{◌≡◌, ◌≢◌, ◌<◌, ◌-◌, ◌^◌, ◌≤◌, length, vec_len, IfOk, IfSome, OnOk};
 ghost use Rattle.std.specs.Io.KnownBytes.{Appends};
 ghost use Rattle.io_edge.specs.Faults.{faults_after_read, faults_after_write, faults_after_put};
-ghost use Rattle.io_edge.specs.Outside.{ReadAnswers, WriteAnswers, PutAnswers};
+ghost use Rattle.io_edge.specs.Outside.{FaultsNeverFall, ReadAnswers, WriteAnswers, PutAnswers};
+ghost use Rattle.io_edge.specs.Untold.{folder_with_faults, sink_with_faults};
 
 use crate::{Folder, PutAnswer, ReadAnswer, Sink, WriteAnswer};
 use std::alloc::Global;
@@ -104,15 +106,12 @@ impl<'a, R: Files> RealFolder<'a, R> {
 }
 
 impl<'a, R: Files> Folder for RealFolder<'a, R> {
-    ghost files = { λ _. None };
-
-    ghost read_faults = { λ folder _. folder };
-
-    ghost write_faults = { λ folder _. folder };
+    ghost seen = { λ folder. folder_with_faults folder };
 
     fn read(&mut self, alloc: Global, name: &Text, max: u64) -> ReadAnswer
-        ensures answer { ReadAnswers None self.old self.new name.now max result }
-        ensures later { self.old ≤ self.new }
+        ensures answer { let before = folder_with_faults self.old in let after = folder_with_faults self.new in
+            ReadAnswers before after name.now max result }
+        ensures later { FaultsNeverFall (folder_with_faults self.old) (folder_with_faults self.new) }
 
         // What this folder says beyond the trait.
         ensures limit { result ≡ ReadAnswer.TooLong → max < 2 ^ 64 - 1 }
@@ -134,8 +133,9 @@ impl<'a, R: Files> Folder for RealFolder<'a, R> {
     }
 
     fn write(&mut self, _alloc: Global, name: &Text, bytes: &[u8]) -> WriteAnswer
-        ensures answer { WriteAnswers None None self.old self.new name.now bytes.now result }
-        ensures later { self.old ≤ self.new }
+        ensures answer { let before = folder_with_faults self.old in let after = folder_with_faults self.new in
+            WriteAnswers before after name.now bytes.now result }
+        ensures later { FaultsNeverFall (folder_with_faults self.old) (folder_with_faults self.new) }
 
         // What this folder says beyond the trait.
         ensures faults { self.new ≡ faults_after_write self.old result }
@@ -164,12 +164,10 @@ impl<'a, R: Print> StdSink<'a, R> {
 }
 
 impl<'a, R: Print> Sink for StdSink<'a, R> {
-    ghost got = { λ _. None };
-
-    ghost faults = { λ sink. sink };
+    ghost seen = { λ sink. sink_with_faults sink };
 
     fn put(&mut self, _alloc: Global, bytes: &[u8]) -> PutAnswer
-        ensures answer { PutAnswers None None self.old self.new bytes.now result }
+        ensures answer { PutAnswers (sink_with_faults self.old) (sink_with_faults self.new) bytes.now result }
         ensures later { self.old ≤ self.new }
 
         // What this sink says beyond the trait.
@@ -189,6 +187,8 @@ impl<'a, R: Print> Sink for StdSink<'a, R> {
 #[cfg(test)]
 mod tests {
     use super::*;
+    use std::cell::RefCell;
+    use std::fmt::Display;
     use std::test::Fail;
 
     #[test]
@@ -211,10 +211,49 @@ mod tests {
         Ok(())
     }
 
+    // An output that keeps what is written, at most four bytes at a time.
+    #[derive(Drop)]
+    struct Kept {
+        bytes: RefCell<Vec<u8>>,
+    }
+
+    impl Print for Kept {
+        fn print<D: Display + Drop>(&self, _value: D) -> io::Result<()> {
+            Err(io::Error::from(ErrorKind::Unsupported))
+        }
+
+        fn println<D: Display + Drop>(&self, _value: D) -> io::Result<()> {
+            Err(io::Error::from(ErrorKind::Unsupported))
+        }
+
+        fn write_all(&self, bytes: &[u8]) -> io::Result<()> {
+            let Ok(mut kept) = self.bytes.try_borrow_mut() else {
+                return Err(io::Error::from(ErrorKind::ResourceBusy));
+            };
+            kept.extend_from_slice(bytes)
+                .map_err(|_| io::Error::from(ErrorKind::OutOfMemory))
+        }
+
+        fn write_some(&self, bytes: &[u8]) -> io::Result<usize> {
+            let count = bytes.len().min(4);
+            self.write_all(&bytes[..count])?;
+            Ok(count)
+        }
+    }
+
     #[test]
-    fn puts_a_line(rt: HostRuntime) {
-        let mut sink = StdSink::new(&rt);
-        let answer = sink.put(rt.alloc(), b"a line\n");
-        assert_eq!(rt; answer, PutAnswer::Done);
+    fn puts_whole_lines(rt: HostRuntime) -> Result<(), Fail> {
+        let output = Kept {
+            bytes: RefCell::new(Vec::new(rt.alloc())),
+        };
+        let mut sink = StdSink::new(&output);
+        for line in [b"a line\n".as_slice(), b"", b"another\n"] {
+            assert_eq!(rt; sink.put(rt.alloc(), line), PutAnswer::Done, "{line:?}");
+        }
+        assert_eq!(rt;
+            output.bytes.try_borrow()?.as_slice(),
+            b"a line\nanother\n".as_slice()
+        );
+        Ok(())
     }
 }

@@ -10,3 +10,5 @@ pub mod Choice
 pub mod Diagnosis
 pub mod Run
 pub mod Worked
+pub mod Named
+pub mod Stops

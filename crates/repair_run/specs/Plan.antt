@@ -1,13 +1,13 @@
 -- What a run does with its files, as a function of their bytes.
 use Rattle.std.specs.Prelude.{◌≡◌, ℕ, ◌≤◌, nat_le, if◌then◌else◌, List, length, Option, Some, None, IfSome, ⊤}
-use Rattle.io_edge.specs.Outside.{Files, Rose, IsLonger}
+use Rattle.io_edge.specs.Outside.{Files, FolderSeen, ReadsRose, IsLonger}
 use Rattle.io_edge.specs.declared.outside.Role.{Role}
 use Rattle.repair_run.specs.declared.first_form.DocumentText.{DocumentText}
 use Rattle.repair_run.specs.declared.first_form.TableText.{TableText}
 use Rattle.repair_run.specs.declared.status.Status.{Status}
 use Rattle.repair_run.specs.Reading.{document_of, table_of}
-use Rattle.repair_run.specs.Texts.{max_bytes, AreRead, IsReached, IsUnbuilt}
-use Rattle.repair_run.specs.Words.{FileNames, name_of}
+use Rattle.repair_run.specs.Texts.{max_bytes, AreRead, IsInputFault, IsUnbuilt}
+use Rattle.repair_run.specs.Words.{FileNames}
 
 -- the first file that is not there, the first refusal, or what is read
 pub data Plan : Type 0 where
@@ -35,23 +35,24 @@ plan files names =
     sized (files names.left) Role.Left (λ left. sized (files names.right) Role.Right (λ right. sized (files names.map) Role.Map (plan_of_texts left right)))
 
 -- a file was read whole
-abbrev pub IsRead : Option Files → List ℕ → List ℕ → Type 0
-IsRead told name bytes = (length bytes ≤ max_bytes) × IfSome told (λ files. files name ≡ Some bytes)
+abbrev pub IsRead : FolderSeen → List ℕ → List ℕ → Type 0
+IsRead folder name bytes = (length bytes ≤ max_bytes) × IfSome folder.files (λ files. files name ≡ Some bytes)
 
 -- why a file was not read
-abbrev pub IsReadStop : Option Files → ℕ → ℕ → List ℕ → Role → Status → Type 0
-IsReadStop told before now name role (Status.ReadFault file) = (file ≡ role) × Rose before now
-IsReadStop told before now name role (Status.Unbuilt file) = (file ≡ role) × IfSome told (λ files. IsLonger (files name) max_bytes)
-IsReadStop told before now name role Status.OutOfMemory = ⊤
-IsReadStop told before now name role _ = ⊥
+abbrev pub IsReadStop : FolderSeen → FolderSeen → List ℕ → Role → Status → Type 0
+IsReadStop old new name role (Status.ReadFault file) = (file ≡ role) × ReadsRose old new name
+IsReadStop old new name role (Status.Unbuilt file) =
+    (file ≡ role) × IfSome old.files (λ files. IsLonger (files name) max_bytes)
+IsReadStop old new name role Status.OutOfMemory = ⊤
+IsReadStop old new name role _ = ⊥
 
 -- the plan hangs on these three texts
-abbrev pub IsPlanOf : Option Files → FileNames → List ℕ → List ℕ → List ℕ → Type 0
-IsPlanOf told names left right map = IfSome told (λ files. plan files names ≡ plan_of_texts left right map)
+abbrev pub IsPlanOf : FolderSeen → FileNames → List ℕ → List ℕ → List ℕ → Type 0
+IsPlanOf folder names left right map = IfSome folder.files (λ files. plan files names ≡ plan_of_texts left right map)
 
 -- the three files were read
-abbrev pub IsLoaded : Option Files → FileNames → DocumentText → DocumentText → TableText → Type 0
-IsLoaded told names left right table = IfSome told (λ files. AreRead files names left right table)
+abbrev pub IsLoaded : FolderSeen → FileNames → DocumentText → DocumentText → TableText → Type 0
+IsLoaded folder names left right table = IfSome folder.files (λ files. AreRead files names left right table)
 
 -- why a text was not taken
 abbrev pub IsTextStop : List ℕ → List ℕ → List ℕ → Status → Type 0
@@ -60,15 +61,15 @@ IsTextStop left right map Status.OutOfMemory = ⊤
 IsTextStop left right map _ = ⊥
 
 -- why the three files were not all read
-abbrev pub IsTextsStop : Option Files → (List ℕ → ℕ) → (List ℕ → ℕ) → FileNames → Status → Type 0
-IsTextsStop told before now names (Status.ReadFault file) = Rose (before (name_of names file)) (now (name_of names file)) × IfSome told (λ files. IsReached files names file)
-IsTextsStop told before now names (Status.Unbuilt file) = IfSome told (λ files. plan files names ≡ Refused file)
-IsTextsStop told before now names Status.OutOfMemory = ⊤
-IsTextsStop told before now names _ = ⊥
+abbrev pub IsTextsStop : FolderSeen → FolderSeen → FileNames → Status → Type 0
+IsTextsStop old new names (Status.ReadFault file) = IsInputFault old new names file
+IsTextsStop old new names (Status.Unbuilt file) = IfSome old.files (λ files. plan files names ≡ Refused file)
+IsTextsStop old new names Status.OutOfMemory = ⊤
+IsTextsStop old new names _ = ⊥
 
--- why the three files were not all read and taken: a fault counts for the file that was to be read
-abbrev pub IsLoadStop : Option Files → (List ℕ → ℕ) → (List ℕ → ℕ) → FileNames → Status → Type 0
-IsLoadStop told before now names (Status.ReadFault file) = Rose (before (name_of names file)) (now (name_of names file)) × IfSome told (λ files. IsReached files names file)
-IsLoadStop told before now names (Status.Unbuilt file) = IfSome told (λ files. IsUnbuilt files names file)
-IsLoadStop told before now names Status.OutOfMemory = ⊤
-IsLoadStop told before now names _ = ⊥
+-- why the three files were not all read and taken
+abbrev pub IsLoadStop : FolderSeen → FolderSeen → FileNames → Status → Type 0
+IsLoadStop old new names (Status.ReadFault file) = IsInputFault old new names file
+IsLoadStop old new names (Status.Unbuilt file) = IfSome old.files (λ files. IsUnbuilt files names file)
+IsLoadStop old new names Status.OutOfMemory = ⊤
+IsLoadStop old new names _ = ⊥
