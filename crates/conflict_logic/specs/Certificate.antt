@@ -13,4 +13,5 @@ pub record IsCertified (incoherent : List ℕ → Type 0) (count : ℕ) (kept : 
   pub ascending : IsStrictlyIncreasing kept
   pub below : (rank : ℕ) → Contains kept rank → rank < count
   pub coherent : ¬ (incoherent kept)
-  pub refuted : (rank : ℕ) → rank < count → ¬ (Contains kept rank) → IsRefuted incoherent (Contains kept) rank
+  pub refuted : (rank : ℕ) → rank < count → ¬ (Contains kept rank)
+      → IsRefuted incoherent (Contains kept) rank

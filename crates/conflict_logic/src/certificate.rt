@@ -18,9 +18,11 @@ pub fn certified_ranks_are_a_repair<F: Family>(family: &F)
     let _ = family;
 }
 
-/// If a test tells which sets are incoherent, each rank that is not kept is then known to be accused.
+/// If a test tells which sets are incoherent, each rank that is not kept is then known to be
+/// accused.
 pub fn certified_ranks_are_an_exact_repair()
-    ensures { (test : List ℕ → Bool) (count : ℕ) (kept : List ℕ) → IsClosedUnderAdding (family_of test)
+    ensures { (test : List ℕ → Bool) (count : ℕ) (kept : List ℕ)
+        → IsClosedUnderAdding (family_of test)
         → IsCertified (family_of test) count kept → IsExactRepair (family_of test) count kept }
 {}
 
@@ -44,7 +46,8 @@ pub fn refuted_by_spared_is_accused()
 /// A rank is spared if ranks that include all spared ones before it are coherent together with it.
 pub fn coherent_with_all_spared_is_spared<F: Family>(family: &F)
     ensures { (rank : ℕ) (ranks : List ℕ) → IsClosedUnderAdding (F.incoherent family.now)
-        → ((other : ℕ) → other < rank → IsSpared (F.incoherent family.now) other → Contains ranks other)
+        → ((other : ℕ) → other < rank → IsSpared (F.incoherent family.now) other
+        → Contains ranks other)
         → ¬ (F.incoherent family.now (ranks ++ rank ∷ []))
         → IsSpared (F.incoherent family.now) rank }
 {

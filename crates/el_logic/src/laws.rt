@@ -9,13 +9,15 @@ ghost use Rattle.el_logic.specs.Meaning.{IsInterp, IsMember, Holds, AreRelated};
 ghost use Rattle.el_logic.specs.Incoherent.{IsModel, IsEmptyClass, IsIncoherent, IsCoherent, must_have};
 ghost use Rattle.el_logic.specs.Cases.{one_element, three_elements, steps};
 
-/// An element belongs to an intersection exactly if it belongs to each operand; without operands, if it is one of the domain.
+/// An element belongs to an intersection exactly if it belongs to each operand; without operands,
+/// if it is one of the domain.
 pub fn members_of_an_intersection()
     ensures { (i : Interp) (x : ℕ) (operands : List Expr)
         → IsMember i x (And operands) ↔ ((x < i.size) × All (IsMember i x) operands) }
 {}
 
-/// An element belongs to an existential restriction exactly if the property leads from it to a member.
+/// An element belongs to an existential restriction exactly if the property leads from it to a
+/// member.
 pub fn members_of_a_restriction()
     ensures { (i : Interp) (x r : ℕ) (filler : Expr)
         → IsMember i x (Exists r filler) ↔ ((y : ℕ) × AreRelated i r x y × IsMember i y filler) }
@@ -67,14 +69,17 @@ pub fn more_axioms_stay_incoherent()
         → IsIncoherent classes roles axioms → IsIncoherent classes roles more }
 {}
 
-/// One model in which every class that must have a member has one shows that the axioms are coherent.
+/// One model in which every class that must have a member has one shows that the axioms are
+/// coherent.
 pub fn a_model_with_members_shows_coherence()
-    ensures { (classes roles : ℕ) (axioms : List Axiom) (i : Interp) → IsModel classes roles axioms i
+    ensures { (classes roles : ℕ) (axioms : List Axiom) (i : Interp)
+        → IsModel classes roles axioms i
         → ((class : Expr) → Contains (must_have classes) class → (x : ℕ) × IsMember i x class)
         → IsCoherent classes roles axioms }
 {}
 
-/// In the interpretation with one element, which class 0 and no other class has, each class axiom holds or fails as it should.
+/// In the interpretation with one element, which class 0 and no other class has, each class axiom
+/// holds or fails as it should.
 pub fn class_axioms_are_told_apart()
     ensures { IsInterp 2 2 one_element × Holds one_element (SubClass (Name 1) (Name 0))
         × ¬ (Holds one_element (SubClass (Name 0) (Name 1)))
@@ -84,8 +89,8 @@ pub fn class_axioms_are_told_apart()
         × ¬ (Holds one_element (Disjoint (Name 0 ∷ Name 0 ∷ []))) }
 {}
 
-/// There property 0 relates the element to itself, and property 1 nothing. Each property axiom holds or fails as it
-/// should; so does transitivity if 0 leads to 1 and 1 to 2 only.
+/// There property 0 relates the element to itself, and property 1 nothing. Each property axiom
+/// holds or fails as it should; so does transitivity if 0 leads to 1 and 1 to 2 only.
 pub fn property_axioms_are_told_apart()
     ensures { Holds one_element (SubRole (1 ∷ []) 0) × ¬ (Holds one_element (SubRole (0 ∷ []) 1))
         × Holds one_element (SubRole (0 ∷ 0 ∷ []) 0)
@@ -95,10 +100,11 @@ pub fn property_axioms_are_told_apart()
         × Holds one_element (Domain 0 (Name 0)) × ¬ (Holds one_element (Domain 0 (Name 1))) }
 {}
 
-/// Among three elements subclasses go one way only, and equivalence and disjointness go both ways and look at every
-/// two operands.
+/// Among three elements subclasses go one way only, and equivalence and disjointness go both ways
+/// and look at every two operands.
 pub fn class_axioms_have_their_direction()
-    ensures { Holds steps (SubClass (Name 0) (Name 1)) × ¬ (Holds steps (SubClass (Name 1) (Name 0)))
+    ensures { Holds steps (SubClass (Name 0) (Name 1))
+        × ¬ (Holds steps (SubClass (Name 1) (Name 0)))
         × Holds steps (Equivalent (Name 0 ∷ Name 3 ∷ []))
         × ¬ (Holds steps (Equivalent (Name 0 ∷ Name 1 ∷ [])))
         × ¬ (Holds steps (Equivalent (Name 1 ∷ Name 0 ∷ [])))
@@ -108,7 +114,8 @@ pub fn class_axioms_have_their_direction()
         × ¬ (Holds steps (Disjoint (Name 0 ∷ Name 2 ∷ Name 1 ∷ []))) }
 {}
 
-/// Among three elements a chain is gone from its first property to its last, and equivalence of properties goes both ways.
+/// Among three elements a chain is gone from its first property to its last, and equivalence of
+/// properties goes both ways.
 pub fn chains_have_their_direction()
     ensures { Holds steps (SubRole (0 ∷ []) 3) × ¬ (Holds steps (SubRole (3 ∷ []) 0))
         × Holds steps (SubRole (0 ∷ 1 ∷ []) 2) × ¬ (Holds steps (SubRole (0 ∷ 1 ∷ []) 0))
@@ -118,8 +125,8 @@ pub fn chains_have_their_direction()
         × ¬ (Holds steps (EquivalentRoles (3 ∷ 0 ∷ []))) }
 {}
 
-/// A transitive property leads on from its first element, a reflexive one relates every element to itself, and a domain
-/// speaks of the element from which the property leads.
+/// A transitive property leads on from its first element, a reflexive one relates every element to
+/// itself, and a domain speaks of the element from which the property leads.
 pub fn single_properties_have_their_meaning()
     ensures { Holds steps (Transitive 7)
         × Holds steps (Reflexive 5) × ¬ (Holds steps (Reflexive 6))

@@ -44,10 +44,12 @@ pub record ChangesOnlyFailing (old new : MemFolder) : Type 0 where
   pub calls : calls_of new ≡ calls_of old
   pub faults : faults_of new ≡ faults_of old
 
--- what a read answers, by the file of this name, if there is one, and by whether the call is one that fails
+-- what a read answers, by the file of this name, if there is one, and by whether the call is one
+-- that fails
 abbrev pub AnswersRead : Option (List ℕ) → ℕ → Type 0 → ReadAnswer → Type 0
 AnswersRead None max fails answer = answer ≡ Read.Failed
-AnswersRead (Some bytes) max fails (Read.Whole read) = (read ≡ bytes) × (length bytes ≤ max) × (¬ fails)
+AnswersRead (Some bytes) max fails (Read.Whole read) =
+    (read ≡ bytes) × (length bytes ≤ max) × (¬ fails)
 AnswersRead (Some bytes) max fails Read.TooLong = max < length bytes
 AnswersRead (Some bytes) max fails Read.Failed = (length bytes ≤ max) × fails
 AnswersRead (Some bytes) max fails Read.OutOfMemory = (length bytes ≤ max) × (¬ fails)

@@ -19,14 +19,15 @@ with_file files name bytes = λ other. if bytes_eq name other then Some bytes el
 abbrev pub Rose : ℕ → ℕ → Type 0
 Rose before now = min (before + 1) (2 ^ 64 - 1) ≤ now
 
--- what clauses see of a folder: the bytes of each file by its name, if it tells them, and how often reads and writes
--- of a name have failed
+-- what clauses see of a folder: the bytes of each file by its name, if it tells them, and how often
+-- reads and writes of a name have failed
 pub record FolderSeen : Type 0 where
   pub files : Option Files
   pub read_faults : List ℕ → ℕ
   pub write_faults : List ℕ → ℕ
 
--- what clauses see of a sink: the bytes that it has got, if it tells them, and how often a put has failed
+-- what clauses see of a sink: the bytes that it has got, if it tells them, and how often a put has
+-- failed
 pub record SinkSeen : Type 0 where
   pub got : Option (List ℕ)
   pub faults : ℕ
@@ -63,7 +64,8 @@ ReadAnswers old new name max Read.OutOfMemory = ⊤
 
 -- the named file holds the first bytes of these, and the others are the same
 abbrev pub HoldsFront : Files → Option Files → List ℕ → List ℕ → Type 0
-HoldsFront files new name bytes = (count : ℕ) × (new ≡ Some (with_file files name (take count bytes)))
+HoldsFront files new name bytes =
+    (count : ℕ) × (new ≡ Some (with_file files name (take count bytes)))
 
 -- what a write answers, and what it leaves
 abbrev pub WriteAnswers : FolderSeen → FolderSeen → List ℕ → List ℕ → WriteAnswer → Type 0
@@ -81,5 +83,6 @@ HasGotFront got new bytes = (count : ℕ) × (new ≡ Some (got ++ take count by
 -- what a put answers, and what it leaves
 abbrev pub PutAnswers : SinkSeen → SinkSeen → List ℕ → PutAnswer → Type 0
 PutAnswers old new bytes Put.Done = IfSome old.got (λ got. new.got ≡ Some (got ++ bytes))
-PutAnswers old new bytes Put.Failed = PutsRose old new × IfSome old.got (λ got. HasGotFront got new.got bytes)
+PutAnswers old new bytes Put.Failed =
+    PutsRose old new × IfSome old.got (λ got. HasGotFront got new.got bytes)
 PutAnswers old new bytes Put.OutOfMemory = new.got ≡ old.got

@@ -11,7 +11,8 @@ use std::alloc::{AllocError, Global};
 use std::collections::BTreeMap;
 use text_names::{Bytes, Text};
 
-/// A folder in memory, for tests. It tells all its files, and fails in the calls that it is told to fail in.
+/// A folder in memory, for tests. It tells all its files, and fails in the calls that it is told to
+/// fail in.
 ///
 /// Reads and writes are numbered together, from 1. A failing write takes nothing.
 #[derive(Debug, Drop)]
@@ -21,7 +22,8 @@ pub struct MemFolder {
     schedule: Schedule,
 }
 
-/// A sink in memory, for tests. It tells all that it has got, and fails in the calls that it is told to fail in.
+/// A sink in memory, for tests. It tells all that it has got, and fails in the calls that it is
+/// told to fail in.
 ///
 /// Puts are numbered from 1. A failing put takes nothing.
 #[derive(Debug, Drop)]
@@ -38,7 +40,8 @@ fn insert_file(
     name: &Text,
     bytes: &[u8],
 ) -> Result<(), AllocError>
-    ensures ok { OnOk result (files_in files.new ≡ with_file (files_in files.old) name.now bytes.now) }
+    ensures ok { OnOk result
+        (files_in files.new ≡ with_file (files_in files.old) name.now bytes.now) }
     ensures err { OnErr result (files.new.entries ≡ files.old.entries) }
 {
     let key = String::from_str(alloc, name.as_str())?;
@@ -64,9 +67,11 @@ impl MemFolder {
         }
     }
 
-    /// Makes a file hold these bytes, whether it was there or not. This is no call that is numbered.
+    /// Makes a file hold these bytes, whether it was there or not. This is no call that is
+    /// numbered.
     pub fn set(&mut self, name: &Text, bytes: &[u8]) -> Result<(), AllocError>
-        ensures ok { OnOk result (files_of self.new ≡ with_file (files_of self.old) name.now bytes.now) }
+        ensures ok { OnOk result
+            (files_of self.new ≡ with_file (files_of self.old) name.now bytes.now) }
         ensures err { OnErr result (files_of self.new ≡ files_of self.old) }
         ensures others { ChangesOnlyFiles self.old self.new }
     {
@@ -134,7 +139,8 @@ impl Folder for MemFolder {
     }
 
     fn write(&mut self, alloc: Global, name: &Text, bytes: &[u8]) -> WriteAnswer
-        ensures answer { WriteAnswers (seen_of self.old) (seen_of self.new) name.now bytes.now result }
+        ensures answer { WriteAnswers (seen_of self.old) (seen_of self.new)
+            name.now bytes.now result }
         ensures later { FaultsNeverFall (seen_of self.old) (seen_of self.new) }
 
         // What this folder says beyond the trait.

@@ -39,7 +39,8 @@ pub enum ReadAnswer {
 #[derive(Clone, Copy, Debug, PartialEq, Eq)]
 pub enum WriteAnswer {
     Done,
-    /// The system reported an error; the file is as before or holds the first bytes of the new ones.
+    /// The system reported an error; the file is as before or holds the first bytes of the new
+    /// ones.
     Failed,
     /// Nothing was written.
     OutOfMemory,
@@ -55,7 +56,8 @@ pub enum PutAnswer {
     OutOfMemory,
 }
 
-/// Files by name. A folder may tell what its files hold, as one in memory does, or tell nothing, as the system's does.
+/// Files by name. A folder may tell what its files hold, as one in memory does, or tell nothing, as
+/// the system's does.
 pub trait Folder {
     /// What clauses see of it: its files, if it tells them, and its counts of faults by name.
     ghost seen: { Self → FolderSeen };
@@ -74,16 +76,19 @@ pub trait Folder {
 
 /// Where lines of output are put.
 pub trait Sink {
-    /// What clauses see of it: the bytes that it has got, if it tells them, and its count of faults.
+    /// What clauses see of it: the bytes that it has got, if it tells them, and its count of
+    /// faults.
     ghost seen: { Self → SinkSeen };
 
-    /// Puts a piece after what was put before. It is a fault if the piece is not empty and nothing of it is taken.
+    /// Puts a piece after what was put before. It is a fault if the piece is not empty and nothing
+    /// of it is taken.
     fn put(&mut self, alloc: Global, bytes: &[u8]) -> PutAnswer
         ensures answer { PutAnswers (seen self.old) (seen self.new) bytes.now result }
         ensures later { (seen self.old).faults ≤ (seen self.new).faults };
 }
 
-/// A count rose if it is greater than before, or if it stands at the end of its type, where counters stop.
+/// A count rose if it is greater than before, or if it stands at the end of its type, where
+/// counters stop.
 pub fn rose_is_greater_or_at_the_end()
     ensures { (before now : ℕ) → now < 2 ^ 64
         → Rose before now ↔ ((before < now) ⊎ (now ≡ 2 ^ 64 - 1)) }

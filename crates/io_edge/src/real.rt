@@ -15,8 +15,9 @@ use text_names::{Bytes, Text};
 
 /// The files of the system, by their paths. Contracts see the count of its faults.
 ///
-/// It tells nothing of what the files hold, and counts each error of the system once, an interrupted call too. A write
-/// begins by making the file empty, so after a failure its old content may be gone.
+/// It tells nothing of what the files hold, and counts each error of the system once, an
+/// interrupted call too. A write begins by making the file empty, so after a failure its old
+/// content may be gone.
 #[derive(Drop)]
 pub struct RealFolder<'a, R> {
     rt: &'a R,
@@ -33,7 +34,8 @@ impl<'a, R> Model for RealFolder<'a, R> {
 
 /// The standard output. Contracts see the count of its faults.
 ///
-/// It tells nothing of what was put, and counts each error of the system once, an interrupted call too.
+/// It tells nothing of what was put, and counts each error of the system once, an interrupted call
+/// too.
 #[derive(Drop)]
 pub struct StdSink<'a, R> {
     rt: &'a R,
@@ -58,8 +60,10 @@ enum ReadFault {
 // Reads to the end, unless that is more than `max` bytes.
 fn read_whole<R: Read>(alloc: Global, file: &mut R, max: u64) -> Result<Vec<u8>, ReadFault>
     ensures bound { IfOk result (λ bytes. vec_len bytes ≤ max) }
-    ensures whole { IfOk result (λ bytes. IfSome (R.remaining file.old) (λ all. bytes.items ≡ all)) }
-    ensures longer { result ≡ Err ReadFault.TooLong → IfSome (R.remaining file.old) (λ all. max < length all) }
+    ensures whole { IfOk result
+        (λ bytes. IfSome (R.remaining file.old) (λ all. bytes.items ≡ all)) }
+    ensures longer { result ≡ Err ReadFault.TooLong
+        → IfSome (R.remaining file.old) (λ all. max < length all) }
     ensures limit { result ≡ Err ReadFault.TooLong → max < 2 ^ 64 - 1 }
 {
     let mut bytes = Vec::new(alloc);
@@ -109,8 +113,8 @@ impl<'a, R: Files> Folder for RealFolder<'a, R> {
     ghost seen = { λ folder. folder_with_faults folder };
 
     fn read(&mut self, alloc: Global, name: &Text, max: u64) -> ReadAnswer
-        ensures answer { let before = folder_with_faults self.old in let after = folder_with_faults self.new in
-            ReadAnswers before after name.now max result }
+        ensures answer { ReadAnswers (folder_with_faults self.old) (folder_with_faults self.new)
+            name.now max result }
         ensures later { FaultsNeverFall (folder_with_faults self.old) (folder_with_faults self.new) }
 
         // What this folder says beyond the trait.
@@ -133,8 +137,8 @@ impl<'a, R: Files> Folder for RealFolder<'a, R> {
     }
 
     fn write(&mut self, _alloc: Global, name: &Text, bytes: &[u8]) -> WriteAnswer
-        ensures answer { let before = folder_with_faults self.old in let after = folder_with_faults self.new in
-            WriteAnswers before after name.now bytes.now result }
+        ensures answer { WriteAnswers (folder_with_faults self.old) (folder_with_faults self.new)
+            name.now bytes.now result }
         ensures later { FaultsNeverFall (folder_with_faults self.old) (folder_with_faults self.new) }
 
         // What this folder says beyond the trait.
@@ -167,7 +171,8 @@ impl<'a, R: Print> Sink for StdSink<'a, R> {
     ghost seen = { λ sink. sink_with_faults sink };
 
     fn put(&mut self, _alloc: Global, bytes: &[u8]) -> PutAnswer
-        ensures answer { PutAnswers (sink_with_faults self.old) (sink_with_faults self.new) bytes.now result }
+        ensures answer { PutAnswers (sink_with_faults self.old) (sink_with_faults self.new)
+            bytes.now result }
         ensures later { self.old ≤ self.new }
 
         // What this sink says beyond the trait.

@@ -36,7 +36,8 @@ plan files names =
 
 -- a file was read whole
 abbrev pub IsRead : FolderSeen → List ℕ → List ℕ → Type 0
-IsRead folder name bytes = (length bytes ≤ max_bytes) × IfSome folder.files (λ files. files name ≡ Some bytes)
+IsRead folder name bytes =
+    (length bytes ≤ max_bytes) × IfSome folder.files (λ files. files name ≡ Some bytes)
 
 -- why a file was not read
 abbrev pub IsReadStop : FolderSeen → FolderSeen → List ℕ → Role → Status → Type 0
@@ -48,11 +49,13 @@ IsReadStop old new name role _ = ⊥
 
 -- the plan hangs on these three texts
 abbrev pub IsPlanOf : FolderSeen → FileNames → List ℕ → List ℕ → List ℕ → Type 0
-IsPlanOf folder names left right map = IfSome folder.files (λ files. plan files names ≡ plan_of_texts left right map)
+IsPlanOf folder names left right map =
+    IfSome folder.files (λ files. plan files names ≡ plan_of_texts left right map)
 
 -- the three files were read
 abbrev pub IsLoaded : FolderSeen → FileNames → DocumentText → DocumentText → TableText → Type 0
-IsLoaded folder names left right table = IfSome folder.files (λ files. AreRead files names left right table)
+IsLoaded folder names left right table =
+    IfSome folder.files (λ files. AreRead files names left right table)
 
 -- why a text was not taken
 abbrev pub IsTextStop : List ℕ → List ℕ → List ℕ → Status → Type 0
@@ -63,13 +66,15 @@ IsTextStop left right map _ = ⊥
 -- why the three files were not all read
 abbrev pub IsTextsStop : FolderSeen → FolderSeen → FileNames → Status → Type 0
 IsTextsStop old new names (Status.ReadFault file) = IsInputFault old new names file
-IsTextsStop old new names (Status.Unbuilt file) = IfSome old.files (λ files. plan files names ≡ Refused file)
+IsTextsStop old new names (Status.Unbuilt file) =
+    IfSome old.files (λ files. plan files names ≡ Refused file)
 IsTextsStop old new names Status.OutOfMemory = ⊤
 IsTextsStop old new names _ = ⊥
 
 -- why the three files were not all read and taken
 abbrev pub IsLoadStop : FolderSeen → FolderSeen → FileNames → Status → Type 0
 IsLoadStop old new names (Status.ReadFault file) = IsInputFault old new names file
-IsLoadStop old new names (Status.Unbuilt file) = IfSome old.files (λ files. IsUnbuilt files names file)
+IsLoadStop old new names (Status.Unbuilt file) =
+    IfSome old.files (λ files. IsUnbuilt files names file)
 IsLoadStop old new names Status.OutOfMemory = ⊤
 IsLoadStop old new names _ = ⊥

@@ -14,7 +14,8 @@ use Rattle.repair_run.specs.Choice.{IsChosen}
 use Rattle.repair_run.specs.Texts.{AreRead, Texts, IsInputFault, IsUnbuilt}
 use Rattle.repair_run.specs.Words.{FileNames}
 
--- the summary: how many rows there are, are kept, are removed and are inert, and that no axiom was omitted
+-- the summary: how many rows there are, are kept, are removed and are inert, and that no axiom was
+-- omitted
 abbrev pub summary_text : ℕ → ℕ → ℕ → List ℕ
 summary_text rows kept inert =
     codes "alod: rows " ++ (decimal rows ++ (codes " kept " ++ (decimal kept
@@ -50,20 +51,26 @@ pub record Run : Type 0 where
 
 abbrev pub run_over : FolderSeen → FolderSeen → SinkSeen → SinkSeen → Run
 run_over folder folder_after output output_after =
-    record { folder = folder; folder_after = folder_after; output = output; output_after = output_after }
+    record {
+      folder = folder;
+      folder_after = folder_after;
+      output = output;
+      output_after = output_after;
+    }
 
 -- what holds of the files before the run, if the folder tells them
 abbrev pub IfTold : Run → (Files → Type 0) → Type 0
 IfTold run Holds = IfSome run.folder.files Holds
 
--- the files are of the first form; this is the first part of the documents that leaves a class empty, and the IRI is
--- that of the first such class
+-- the files are of the first form; this is the first part of the documents that leaves a class
+-- empty, and the IRI is that of the first such class
 abbrev pub IsIncoherentCase : Files → FileNames → Part → List ℕ → Type 0
 IsIncoherentCase files names part iri = (t : Texts files names) × IsFoundIn t.left t.right part iri
 
 -- the files are of the first form, and the documents leave no class empty
 abbrev pub IsRepairable : Run → FileNames → Type 0
-IsRepairable run names = IfTold run (λ files. (t : Texts files names) × AreCoherentTogether t.left t.right)
+IsRepairable run names =
+    IfTold run (λ files. (t : Texts files names) × AreCoherentTogether t.left t.right)
 
 -- OUT holds these bytes, and no other file has changed
 abbrev pub HoldsOut : Run → Files → FileNames → List ℕ → Type 0
@@ -75,7 +82,8 @@ HasGot run line = IfSome run.output.got (λ got. run.output_after.got ≡ Some (
 
 -- OUT holds the repaired table, no other file has changed, and the output has got the summary
 abbrev pub IsDone : Run → FileNames → Type 0
-IsDone run names = IfTold run (λ files. (o : Outcome files names) × HoldsOut run files names (out_text o) × HasGot run (summary_of o))
+IsDone run names = IfTold run (λ files. (o : Outcome files names)
+    × HoldsOut run files names (out_text o) × HasGot run (summary_of o))
 
 -- the output has got a summary: this is known also of a folder that tells nothing
 pub record HasGotSummary (run : Run) : Type 0 where
@@ -91,12 +99,14 @@ IsPutShort run names = IfTold run (λ files. (o : Outcome files names)
 
 -- only OUT may have changed, and it holds the whole of the repaired table
 abbrev pub IsWritten : Run → FileNames → Type 0
-IsWritten run names = IfTold run (λ files. (o : Outcome files names) × HoldsOut run files names (out_text o))
+IsWritten run names =
+    IfTold run (λ files. (o : Outcome files names) × HoldsOut run files names (out_text o))
 
 -- only OUT may have changed, and if so it holds the first bytes of the repaired table
 abbrev pub IsTorn : Run → FileNames → Type 0
 IsTorn run names = IfTold run (λ files. (o : Outcome files names)
-    × ((run.folder_after.files ≡ Some files) ⊎ HoldsFront files run.folder_after.files names.out (out_text o)))
+    × ((run.folder_after.files ≡ Some files)
+    ⊎ HoldsFront files run.folder_after.files names.out (out_text o)))
 
 -- no file has changed
 abbrev pub IsUntouched : Run → Type 0
@@ -109,7 +119,8 @@ FilesStand run names (Status.WriteFault Target.Out) = IsTorn run names
 FilesStand run names (Status.WriteFault Target.Evidence) = ⊥
 FilesStand run names (Status.WriteFault Target.Output) = IsWritten run names
 FilesStand run names Status.OutOfMemory =
-    IsUntouched run ⊎ (IsWritten run names ⊎ (WritesRose run.folder run.folder_after names.out × IsTorn run names))
+    IsUntouched run ⊎ (IsWritten run names
+    ⊎ (WritesRose run.folder run.folder_after names.out × IsTorn run names))
 FilesStand run names _ = IsUntouched run
 
 -- the whole line was put, or the output failed after its first bytes
@@ -117,11 +128,13 @@ abbrev pub IsLinePut : SinkSeen → SinkSeen → List ℕ → Type 0
 IsLinePut old new line = IfSome old.got (λ got.
     (new.got ≡ Some (got ++ line)) ⊎ (PutsRose old new × HasGotFront got new.got line))
 
--- how the output stands after an answer that is not the good one; if memory ran out, the line may have been put in part
+-- how the output stands after an answer that is not the good one; if memory ran out, the line may
+-- have been put in part
 abbrev pub OutputStands : SinkSeen → SinkSeen → Status → Type 0
 OutputStands old new Status.Done = ⊤
 OutputStands old new (Status.WriteFault Target.Output) = ⊤
-OutputStands old new Status.OutOfMemory = IfSome old.got (λ got. HasGotFront got new.got (refusal_line Status.OutOfMemory))
+OutputStands old new Status.OutOfMemory =
+    IfSome old.got (λ got. HasGotFront got new.got (refusal_line Status.OutOfMemory))
 OutputStands old new s = IsLinePut old new (refusal_line s)
 
 -- an answer, or that memory ran out in its place
@@ -131,7 +144,8 @@ IsOrMemory answer result = (result ≡ answer) ⊎ (result ≡ Status.OutOfMemor
 -- an answer that comes after the reads, or a fault of a read, or that memory ran out, in its place
 abbrev pub IsOrReadStop : Status → Status → Type 0
 IsOrReadStop answer result =
-    (result ≡ answer) ⊎ (((file : Role) × (result ≡ Status.ReadFault file)) ⊎ (result ≡ Status.OutOfMemory))
+    (result ≡ answer) ⊎ (((file : Role) × (result ≡ Status.ReadFault file))
+    ⊎ (result ≡ Status.OutOfMemory))
 
 -- all that is known of a run over named files, by its answer
 pub record IsRun (run : Run) (names : FileNames) (answer : Status) : Type 0 where
@@ -143,15 +157,18 @@ pub record IsRun (run : Run) (names : FileNames) (answer : Status) : Type 0 wher
   -- an input could not be read, after those before it were read
   pub read_fault : (file : Role) → answer ≡ Status.ReadFault file
       → IsInputFault run.folder run.folder_after names file
-  -- this is the first file that is too long; or none is, and it is the first that is not of the first form
-  pub unbuilt : (file : Role) → answer ≡ Status.Unbuilt file → IfTold run (λ files. IsUnbuilt files names file)
+  -- this is the first file that is too long; or none is, and it is the first that is not of the
+  -- first form
+  pub unbuilt : (file : Role) → answer ≡ Status.Unbuilt file
+      → IfTold run (λ files. IsUnbuilt files names file)
   pub unbuilt_answer : (file : Role)
       → IfTold run (λ files. IsUnbuilt files names file → IsOrReadStop (Status.Unbuilt file) answer)
   -- the first part of the documents that leaves a class empty, and the first such class
   pub incoherent : (part : Part) (class : List ℕ) → answer ≡ Status.Incoherent part class
       → IfTold run (λ files. IsIncoherentCase files names part class)
   pub incoherent_answer : (part : Part) (class : List ℕ)
-      → IfTold run (λ files. IsIncoherentCase files names part class → IsOrReadStop (Status.Incoherent part class) answer)
+      → IfTold run (λ files. IsIncoherentCase files names part class
+      → IsOrReadStop (Status.Incoherent part class) answer)
   -- OUT could not be written; the documents leave no class empty
   pub write_fault : answer ≡ Status.WriteFault Target.Out
       → WritesRose run.folder run.folder_after names.out × IsRepairable run names

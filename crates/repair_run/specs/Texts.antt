@@ -22,7 +22,8 @@ IsFileOf IsForm None = ⊥
 IsFileOf IsForm (Some bytes) = (length bytes ≤ max_bytes) × IsForm bytes
 
 -- LEFT and RIGHT are these documents, and MAP is this table
-pub record AreRead (files : Files) (names : FileNames) (left right : DocumentText) (table : TableText) : Type 0 where
+pub record AreRead (files : Files) (names : FileNames)
+    (left right : DocumentText) (table : TableText) : Type 0 where
   pub left_read : IsFileOf (λ bytes. IsDocumentText bytes left) (files names.left)
   pub right_read : IsFileOf (λ bytes. IsDocumentText bytes right) (files names.right)
   pub table_read : IsFileOf (λ bytes. IsTableText bytes table) (files names.map)
@@ -57,13 +58,15 @@ IsReached files names _ = ⊥
 -- reading this input failed, after those before it were read
 abbrev pub IsInputFault : FolderSeen → FolderSeen → FileNames → Role → Type 0
 IsInputFault old new names file =
-    IsInput file × ReadsRose old new (name_of names file) × IfSome old.files (λ files. IsReached files names file)
+    IsInput file × ReadsRose old new (name_of names file)
+    × IfSome old.files (λ files. IsReached files names file)
 
 -- all three were read
 abbrev pub AreShort : Files → FileNames → Type 0
 AreShort files names = IsShort (files names.left) × IsShort (files names.right) × IsShort (files names.map)
 
--- this file is the first that is too long; or none is, and it is the first that is not of the first form
+-- this file is the first that is too long; or none is, and it is the first that is not of the first
+-- form
 abbrev pub IsUnbuilt : Files → FileNames → Role → Type 0
 IsUnbuilt files names Role.Left =
     IsLonger (files names.left) max_bytes ⊎ (AreShort files names × ¬ (IsDocumentFile (files names.left)))

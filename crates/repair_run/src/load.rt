@@ -60,8 +60,10 @@ fn read_texts<F: Folder>(
 ) -> Result<Texts, Status>
     ensures files { (F.seen folder.new).files ≡ (F.seen folder.old).files }
     ensures later { FaultsNeverFall (F.seen folder.old) (F.seen folder.new) }
-    ensures ok { IfOk result (λ t. IsPlanOf (F.seen folder.old) (named names.now) t.left t.right t.map) }
-    ensures err { IfErr result (IsTextsStop (F.seen folder.old) (F.seen folder.new) (named names.now)) }
+    ensures ok { IfOk result
+        (λ t. IsPlanOf (F.seen folder.old) (named names.now) t.left t.right t.map) }
+    ensures err { IfErr result
+        (IsTextsStop (F.seen folder.old) (F.seen folder.new) (named names.now)) }
 {
     let left = read_file(alloc, folder, names.left, Role::Left)?;
     let right = read_file(alloc, folder, names.right, Role::Right)?;
@@ -71,7 +73,8 @@ fn read_texts<F: Folder>(
 
 // Looks at the form of each text.
 fn take_texts(alloc: Global, texts: &Texts) -> Result<Loaded, Status>
-    ensures ok { IfOk result (λ l. plan_of_texts texts.now.left texts.now.right texts.now.map ≡ Ready l.left l.right l.table) }
+    ensures ok { IfOk result
+        (λ l. plan_of_texts texts.now.left texts.now.right texts.now.map ≡ Ready l.left l.right l.table) }
     ensures forms { IfOk result (λ l. AreOfForm l.left l.right l.table) }
     ensures err { IfErr result (IsTextStop texts.now.left texts.now.right texts.now.map) }
 {
@@ -95,9 +98,11 @@ pub fn load<F: Folder>(
 ) -> Result<Loaded, Status>
     ensures files { (F.seen folder.new).files ≡ (F.seen folder.old).files }
     ensures later { FaultsNeverFall (F.seen folder.old) (F.seen folder.new) }
-    ensures ok { IfOk result (λ l. IsLoaded (F.seen folder.old) (named names.now) l.left l.right l.table) }
+    ensures ok { IfOk result
+        (λ l. IsLoaded (F.seen folder.old) (named names.now) l.left l.right l.table) }
     ensures forms { IfOk result (λ l. AreOfForm l.left l.right l.table) }
-    ensures err { IfErr result (IsLoadStop (F.seen folder.old) (F.seen folder.new) (named names.now)) }
+    ensures err { IfErr result
+        (IsLoadStop (F.seen folder.old) (F.seen folder.new) (named names.now)) }
 {
     let texts = match read_texts(alloc, folder, names) {
         Ok(texts) => texts,

@@ -28,9 +28,11 @@ fn write_out<F: Folder, S: Sink>(
     ensures later { FaultsNeverFall (F.seen folder.old) (F.seen folder.new) }
     ensures files { OnOk result (IfSome (F.seen folder.old).files
         (λ files. (F.seen folder.new).files ≡ Some (with_file files name.now text.now))) }
-    ensures got { let run = run_over (F.seen folder.old) (F.seen folder.new) (S.seen out.old) (S.seen out.new) in
+    ensures got { let run = run_over (F.seen folder.old) (F.seen folder.new)
+        (S.seen out.old) (S.seen out.new) in
         OnOk result (HasGot run line.now) }
-    ensures err { let run = run_over (F.seen folder.old) (F.seen folder.new) (S.seen out.old) (S.seen out.new) in
+    ensures err { let run = run_over (F.seen folder.old) (F.seen folder.new)
+        (S.seen out.old) (S.seen out.new) in
         IfErr result (IsWriteStop run name.now text.now line.now) }
 {
     match folder.write(alloc, name, text) {
@@ -58,13 +60,17 @@ fn run<F: Folder, S: Sink>(
     folder: &mut F,
     out: &mut S,
 ) -> Result<(), Status>
-    ensures done { let run = run_over (F.seen folder.old) (F.seen folder.new) (S.seen out.old) (S.seen out.new) in
+    ensures done { let run = run_over (F.seen folder.old) (F.seen folder.new)
+        (S.seen out.old) (S.seen out.new) in
         OnOk result (IsDone run (named names.now)) }
-    ensures summary { let run = run_over (F.seen folder.old) (F.seen folder.new) (S.seen out.old) (S.seen out.new) in
+    ensures summary { let run = run_over (F.seen folder.old) (F.seen folder.new)
+        (S.seen out.old) (S.seen out.new) in
         OnOk result (HasGotSummary run) }
-    ensures stop { let run = run_over (F.seen folder.old) (F.seen folder.new) (S.seen out.old) (S.seen out.new) in
+    ensures stop { let run = run_over (F.seen folder.old) (F.seen folder.new)
+        (S.seen out.old) (S.seen out.new) in
         IfErr result (IsStop run (named names.now)) }
-    ensures files { let run = run_over (F.seen folder.old) (F.seen folder.new) (S.seen out.old) (S.seen out.new) in
+    ensures files { let run = run_over (F.seen folder.old) (F.seen folder.new)
+        (S.seen out.old) (S.seen out.new) in
         IfErr result (FilesStand run (named names.now)) }
     ensures quiet { IfErr result (IsQuiet (S.seen out.old) (S.seen out.new)) }
 {
@@ -108,11 +114,13 @@ fn refuse<S: Sink>(alloc: Global, out: &mut S, status: Status) -> Status
     }
 }
 
-/// Repairs a mapping table between two ontologies: reads LEFT, RIGHT and MAP, and writes to OUT the table without the
-/// rows that are accused of leaving a class without any possible member. The words are those four names.
+/// Repairs a mapping table between two ontologies: reads LEFT, RIGHT and MAP, and writes to OUT the
+/// table without the rows that are accused of leaving a class without any possible member. The
+/// words are those four names.
 ///
-/// Each refusal has a line of its own on the output, which is put as one piece; a run that is done puts its summary.
-/// A fault of the output while the line of a refusal is put changes neither the answer nor the files.
+/// Each refusal has a line of its own on the output, which is put as one piece; a run that is done
+/// puts its summary. A fault of the output while the line of a refusal is put changes neither the
+/// answer nor the files.
 pub fn repair<F: Folder, S: Sink>(
     alloc: Global,
     words: &[Text],
@@ -123,11 +131,14 @@ pub fn repair<F: Folder, S: Sink>(
     ensures words { result ≡ Status.Words → names_given words.now ≡ None }
     ensures words_answer { names_given words.now ≡ None → IsOrMemory Status.Words result }
 
-    // All else that is known of a run, with the headline in `done`, is the record `IsRun` of `specs/Run.antt`.
-    ensures run { let run = run_over (F.seen folder.old) (F.seen folder.new) (S.seen out.old) (S.seen out.new) in
+    // All else that is known of a run, with the headline in `done`, is the record `IsRun` of
+    // `specs/Run.antt`.
+    ensures run { let run = run_over (F.seen folder.old) (F.seen folder.new)
+        (S.seen out.old) (S.seen out.new) in
         IfSome (names_given words.now) (λ names. IsRun run names result) }
 
-    ensures no_names { let run = run_over (F.seen folder.old) (F.seen folder.new) (S.seen out.old) (S.seen out.new) in
+    ensures no_names { let run = run_over (F.seen folder.old) (F.seen folder.new)
+        (S.seen out.old) (S.seen out.new) in
         IfNone (names_given words.now) (IsUntouched run) }
     ensures output { OutputStands (S.seen out.old) (S.seen out.new) result }
 {
