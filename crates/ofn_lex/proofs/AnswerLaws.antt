@@ -159,7 +159,8 @@ same_kind : (o : Option Token) (one other : TokenKind) (m n : ℕ) → Reaches o
 same_kind None one other m n h k = absurd h
 same_kind (Some token) one other m n h k = sym h.0 ∙ k.0
 
-form_has_bytes : (kind : TokenKind) (own : List ℕ) → HasForm kind own → 1 ≤ length own
+-- a token is not empty
+pub form_has_bytes : (kind : TokenKind) (own : List ℕ) → HasForm kind own → 1 ≤ length own
 form_has_bytes Open own form = omega (arith, ap length form)
 form_has_bytes Close own form = omega (arith, ap length form)
 form_has_bytes Equals own form = omega (arith, ap length form)
@@ -170,7 +171,7 @@ form_has_bytes Carets own form = omega (arith, ap length form)
 form_has_bytes Run own form = form.0
 
 -- a token ends past the offset and within the text
-next_ends : (text : List ℕ) (from : ℕ) (token : Token) → IsNext text from token → (from < token.end) × (token.end ≤ length text)
+pub next_ends : (text : List ℕ) (from : ℕ) (token : Token) → IsNext text from token → (from < token.end) × (token.end ≤ length text)
 next_ends text from token h =
     let some : 1 ≤ length h.own = form_has_bytes token.kind h.own h.form in
     let size : length (gap_bytes h.gap) + (length h.own + length h.rest) ≡ length text - from = simp (length-append, length-drop) at (sym (ap length h.whole)) in

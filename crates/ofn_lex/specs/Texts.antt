@@ -1,5 +1,6 @@
 -- A text as gaps and tokens in turn.
-use Rattle.std.specs.Prelude.{◌≡◌, ◌≤◌, ℕ, ◌+◌, List, [], ◌∷◌, ◌++◌, length, drop, false, Option, Some, None, Result, Ok, Err, ⊤}
+use Rattle.std.specs.Prelude.{◌≡◌, ◌≤◌, ◌<◌, ℕ, ◌+◌, ◌&&◌, nat_le, if◌then◌else◌, List, [], ◌∷◌, ◌++◌, length, drop, slice_range, false, Option, Some, None, Result, Ok, Err, ⊤}
+use Rattle.std.specs.List.{AllByRecursion}
 use Rattle.std.specs.Str.{IsCharBoundary}
 use Rattle.ofn_lex.specs.Bytes.{begins_gap}
 use Rattle.ofn_lex.specs.Forms.{GapPart, gap_bytes, IsGap, HasForm}
@@ -71,3 +72,18 @@ abbrev pub CutsAtCharacters : List ℕ → Result (Option Token) LexFault → Ty
 CutsAtCharacters text (Ok None) = ⊤
 CutsAtCharacters text (Ok (Some token)) = IsCharBoundary text token.start × IsCharBoundary text token.end
 CutsAtCharacters text (Err fault) = IsCharBoundary text fault.offset
+
+-- the bytes of a token, or none where it is not within the text
+abbrev pub bytes_of : List ℕ → Token → List ℕ
+bytes_of text token = if nat_le token.start token.end && nat_le token.end (length text) then slice_range text token.start token.end else []
+
+-- the token takes up one byte or more of the text, and these have the form of its kind
+pub record IsTokenOf (text : List ℕ) (token : Token) : Type 0 where
+  pub some : token.start < token.end
+  pub within : token.end ≤ length text
+  pub form : HasForm token.kind (bytes_of text token)
+
+-- each token ends at or before the start of each later one
+abbrev pub StandInOrder : List Token → Type 0
+StandInOrder [] = ⊤
+StandInOrder (token ∷ tokens) = AllByRecursion (λ later. token.end ≤ later.start) tokens × StandInOrder tokens

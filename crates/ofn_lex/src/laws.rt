@@ -1,10 +1,10 @@
 //! Laws on tokens: functions that do nothing and whose contracts are the laws.
 
-ghost use Rattle.std.specs.Prelude.{◌≡◌, ◌∷◌, [], ℕ, List, ◌++◌, Option, Result, Ok, Some};
+ghost use Rattle.std.specs.Prelude.{◌≡◌, ◌≤◌, ◌∷◌, [], ℕ, List, ◌++◌, Option, Result, Ok, Some, All};
 ghost use Rattle.std.specs.Str.{encode_utf8_all};
 ghost use Rattle.ofn_lex.specs.Forms.{HasForm};
 ghost use Rattle.ofn_lex.specs.Reading.{next_of};
-ghost use Rattle.ofn_lex.specs.Texts.{IsAnswer, HasTokens, HasReading};
+ghost use Rattle.ofn_lex.specs.Texts.{IsNext, IsAnswer, HasTokens, HasReading, IsTokenOf, StandInOrder};
 ghost use Rattle.ofn_lex.specs.declared.token.Token.{Token};
 ghost use Rattle.ofn_lex.specs.declared.token.LexFault.{LexFault};
 ghost use Rattle.ofn_lex.specs.declared.token.TokenKind.{TokenKind};
@@ -40,6 +40,17 @@ pub fn each_text_has_one_list_of_tokens()
     ensures one { (text : List ℕ) (from : ℕ) (tokens others : List Token) (last other : Option LexFault) →
         HasTokens text from tokens last → HasTokens text from others other →
         (tokens ≡ others) × (last ≡ other) }
+{}
+
+/// A token takes up one byte or more of its text, which have the form of its kind. Tokens stand in
+/// order, and none overlaps another.
+pub fn tokens_have_their_forms()
+    ensures next { (text : List ℕ) (from : ℕ) (token : Token) →
+        IsNext text from token → (from ≤ token.start) × IsTokenOf text token }
+    ensures each { (text : List ℕ) (from : ℕ) (tokens : List Token) (last : Option LexFault) →
+        HasTokens text from tokens last → All (IsTokenOf text) tokens }
+    ensures in_order { (text : List ℕ) (from : ℕ) (tokens : List Token) (last : Option LexFault) →
+        HasTokens text from tokens last → StandInOrder tokens }
 {}
 
 /// Characters have a form, with the tests asked of their numbers, exactly where their UTF-8 has it.

@@ -1,8 +1,9 @@
 //! Laws on items: functions that do nothing for a caller, and whose contracts are the laws.
 
-ghost use Rattle.std.specs.Prelude.{◌≡◌, ◌≤◌, ℕ, length, Option, List, [], ◌∷◌, ◌++◌, true, codes, Some, None};
+ghost use Rattle.std.specs.Prelude.{◌≡◌, ◌≤◌, ℕ, length, Option, List, [], ◌∷◌, ◌++◌, true, codes, Some, None, All};
 ghost use Rattle.ofn_lex.specs.declared.token.Token.{Token};
 ghost use Rattle.ofn_lex.specs.declared.token.TokenKind.TheVariants.{Open, Close, Run};
+ghost use Rattle.ofn_lex.specs.Texts.{IsTokenOf, StandInOrder};
 ghost use Rattle.ofn_term.specs.Brackets.{StayWithin, HasPartner, IsUnopened, IsUnclosed, IsTooDeep};
 ghost use Rattle.ofn_term.specs.Words.{is_open};
 ghost use Rattle.ofn_term.specs.Texts.{HasItems, HasFault, HasAnswer};
@@ -11,7 +12,7 @@ ghost use Rattle.ofn_term.specs.declared.fault.TermFault.{TermFault};
 ghost use Rattle.ofn_term.specs.declared.item.Item.{Item};
 ghost use Rattle.ofn_term.specs.declared.item.Item.TheVariants.{Atom, Group};
 
-use ofn_lex::each_text_has_one_list_of_tokens;
+use ofn_lex::{each_text_has_one_list_of_tokens, tokens_have_their_forms};
 
 /// Items are written out one after another, a group with its head, its brackets and what is between
 /// them. Each gives a token at least.
@@ -57,6 +58,17 @@ pub fn unclosed_is_the_first_without_a_partner()
         (front : List Token) (bracket : Token) (behind : List Token) →
         unclosed.bracket_at.front ≡ front ++ bracket ∷ behind → is_open bracket ≡ true → HasPartner behind }
 {}
+
+/// Each token of a text's items takes up one byte or more of the text, which have the form of its kind.
+/// The tokens stand in order, and none overlaps another.
+pub fn tokens_of_items_have_their_forms()
+    ensures each { (text : List ℕ) (most : ℕ) (items : List Item) →
+        HasItems text most items → All (IsTokenOf text) (tokens_of items) }
+    ensures in_order { (text : List ℕ) (most : ℕ) (items : List Item) →
+        HasItems text most items → StandInOrder (tokens_of items) }
+{
+    tokens_have_their_forms();
+}
 
 /// Tokens have one list of items at most.
 pub fn tokens_have_one_list_of_items()
