@@ -1,5 +1,5 @@
 -- The bytes of tokens, and their order.
-use Rattle.std.proofs.Common.{◌≡◌, ◌≤◌, ◌<◌, ℕ, ◌+◌, ◌-◌, Bool, true, cond, ◌&&◌, List, [], ◌∷◌, ◌++◌, length, take, drop, refl, ap, sym, subst, ◌∙◌, arith, All}
+use Rattle.std.proofs.Common.{◌≡◌, ◌≤◌, ◌<◌, ℕ, ◌-◌, true, List, [], ◌∷◌, ◌++◌, length, take, drop, refl, ap, sym, subst, ◌∙◌, arith, All}
 use Rattle.std.specs.Prelude.{nat_le, slice_range, Option}
 use Rattle.std.specs.List.{AllByRecursion}
 use Rattle.std.proofs.Math.Seq.{take-append_seam}
@@ -25,11 +25,11 @@ next_is_token text from token h =
     let size : 1 ≤ length h.own = form_has_bytes token.kind h.own h.form in
     let some : token.start < token.end = omega (arith, h.ends) in
     let tail : drop token.start text ≡ h.own ++ h.rest =
-        ap (λ (n : ℕ). drop n text) h.starts ∙ drop_behind text from (gap_bytes h.gap) (h.own ++ h.rest) h.whole in
+    ap (λ (n : ℕ). drop n text) h.starts ∙ drop_behind text from (gap_bytes h.gap) (h.own ++ h.rest) h.whole in
     let count : token.end - token.start ≡ length h.own = omega (arith, h.ends) in
     let own : bytes_of text token ≡ h.own =
-        bytes_within text token (omega arith) ends.1 ∙ ap (λ (l : List ℕ). take (token.end - token.start) l) tail
-        ∙ ap (λ (n : ℕ). take n (h.own ++ h.rest)) count ∙ take-append_seam h.own h.rest in
+    bytes_within text token (omega arith) ends.1 ∙ ap (λ (l : List ℕ). take (token.end - token.start) l) tail
+    ∙ ap (λ (n : ℕ). take n (h.own ++ h.rest)) count ∙ take-append_seam h.own h.rest in
     record { some = some; within = ends.1; form = subst (HasForm token.kind) (sym own) h.form }
 
 -- it starts at the offset or after it

@@ -1,5 +1,5 @@
 -- What a token is to the items.
-use Rattle.std.specs.Prelude.{ℕ, Bool, true, false, not, ◌&&◌, ◌||◌, ◌==◌, nat_le, if◌then◌else◌, List, [], ◌∷◌, length, slice_range}
+use Rattle.std.specs.Prelude.{ℕ, Bool, true, false, not, ◌&&◌, ◌||◌, ◌==◌, List, [], ◌∷◌}
 use Rattle.std.specs.List.{list_any}
 pub use Rattle.ofn_lex.specs.Texts.{bytes_of}
 use Rattle.ofn_lex.specs.declared.token.Token.{Token}

@@ -1,12 +1,13 @@
 //! Laws on headers: functions that do nothing and whose contracts are the laws.
 
-ghost use Rattle.std.specs.Prelude.{◌≡◌, ℕ, List, [], ◌∷◌, true, false, Some, None, if◌then◌else◌, codes};
+ghost use Rattle.std.specs.Prelude.{◌≡◌, ℕ, List, [], ◌∷◌, ◌++◌, true, false, Some, None, if◌then◌else◌, codes, take, drop};
+ghost use Rattle.std.specs.List.{AllByRecursion, concat};
 ghost use Rattle.text_names.specs.Prefixes.{Prefixes, iri_of, is_declared};
 ghost use Rattle.sssom_head.specs.BuiltIn.{built_in, with_built_in};
 ghost use Rattle.sssom_head.specs.Contents.{is_blank, map_text, is_empty_map};
 ghost use Rattle.sssom_head.specs.Entries.{IsEntry};
 ghost use Rattle.sssom_head.specs.Headers.{IsReading};
-ghost use Rattle.sssom_head.specs.Lines.{contents_of};
+ghost use Rattle.sssom_head.specs.Lines.{lines_of, header_lines, bytes_in, begins_with_hash, contents_of, trimmed, AreLines, IsTrimmed};
 ghost use Rattle.sssom_head.specs.Reading.{Answer, entry_in, run, start};
 
 /// What is read line by line is what the lines say, and they say nothing else: no line is at fault and
@@ -14,6 +15,32 @@ ghost use Rattle.sssom_head.specs.Reading.{Answer, entry_in, run, start};
 pub fn what_is_read_is_what_the_lines_say()
     ensures found { (lines : List (List ℕ)) → IsReading lines (run 1 start lines) }
     ensures alone { (lines : List (List ℕ)) (answer : Answer) → IsReading lines answer → run 1 start lines ≡ answer }
+{}
+
+/// The lines of a text, one after another, are the text. Each ends with its only line feed, but the
+/// last may have none; and no other lines are so.
+pub fn lines_are_the_text()
+    ensures joined { (text : List ℕ) → concat (lines_of text) ≡ text }
+    ensures form { (text : List ℕ) → AreLines (lines_of text) }
+    ensures alone { (lines : List (List ℕ)) → AreLines lines → lines_of (concat lines) ≡ lines }
+{}
+
+/// The header lines are the front of the text with as many bytes. Each begins with `#`; what follows
+/// does not, and has the other lines of the text.
+pub fn header_lines_are_the_front()
+    ensures front { (text : List ℕ) →
+        concat (header_lines text) ≡ take (bytes_in (header_lines text)) text }
+    ensures marked { (text : List ℕ) →
+        AllByRecursion (λ line. begins_with_hash line ≡ true) (header_lines text) }
+    ensures rest { (text : List ℕ) →
+        begins_with_hash (drop (bytes_in (header_lines text)) text) ≡ false }
+    ensures lines { (text : List ℕ) →
+        lines_of text ≡ header_lines text ++ lines_of (drop (bytes_in (header_lines text)) text) }
+{}
+
+/// Of a trimmed text only spaces and tabs at its end are missing, and all of these.
+pub fn trimmed_text_ends_visibly()
+    ensures { (text : List ℕ) → IsTrimmed text (trimmed text) }
 {}
 
 /// A line is an entry with one key and one value at most.

@@ -1,6 +1,5 @@
-use Rattle.std.proofs.Common.{List, All, subst, sym}
+use Rattle.std.proofs.Common.{All, subst, sym}
 use Rattle.std.specs.Prelude.{None}
-use Rattle.ofn_lex.specs.declared.token.Token.{Token}
 use Rattle.ofn_lex.specs.Texts.{IsTokenOf, StandInOrder}
 use Rattle.ofn_term.proofs.laws.tokens_of_items_have_their_forms.Goals as goal
 
