@@ -1,4 +1,4 @@
-// Where gaps and tokens end. Each function is given the bytes of a text from the offset `at` on.
+//! Where gaps and tokens end. Each function is given the bytes of a text from the offset `at` on.
 
 ghost use Rattle.std.specs.Prelude.{◌≡◌, ◌≤◌, ◌<◌, ◌+◌, ◌^◌, length, IfSome};
 ghost use Rattle.ofn_lex.specs.Bytes.{is_language_byte, is_run_byte};

@@ -85,8 +85,8 @@ module _ (confidences rows : List ℕ) (ranking : IsRanking confidences rows) wh
   ranked_within place within =
       let numbers = range_with_len 0 (length confidences) in
       let all : All (λ row. row < length confidences) numbers = All-from_get_or (λ row. row < length confidences) numbers 0
-          (λ i inside. let few : i < length confidences = omega (arith, inside, length-range_with_len 0 (length confidences)) in
-          omega (arith, few, get_or-range_with_len 0 (length confidences) i 0 few)) in
+      (λ i inside. let few : i < length confidences = omega (arith, inside, length-range_with_len 0 (length confidences)) in
+      omega (arith, few, get_or-range_with_len 0 (length confidences) i 0 few)) in
       All-get_or (λ row. row < length confidences) rows place 0 within (All-permutation (λ row. row < length confidences) numbers rows ranking.each_once all)
 
   -- no row is ranked twice

@@ -1,3 +1,5 @@
+//! Exact confidences.
+
 ghost use Rattle.std.specs.Prelude.{◌≡◌, ◌≤◌, ◌^◌, ℕ, IfSome, IfNone, ◌<◌};
 ghost use Rattle.rank_order.specs.Decimal.{AreDigits, IsConfidence};
 ghost use Rattle.rank_order.specs.Scale.{IsTooFine, IsShort, value_of, joined_number, IsScaledBy, AreScaledBy};

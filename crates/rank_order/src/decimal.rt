@@ -1,4 +1,4 @@
-// The parts of a decimal number.
+//! The parts of a decimal number.
 
 ghost use Rattle.std.specs.Prelude.{◌≡◌, ℕ, length};
 ghost use Rattle.rank_order.specs.Decimal.{Sign, has_minus, is_digit, is_exponent_letter, fraction_digits};

@@ -1,4 +1,4 @@
-// Whole numbers of any length, by their significant digits.
+//! Whole numbers of any length, by their significant digits.
 
 ghost use Rattle.std.specs.Prelude.{◌≡◌, ◌≤◌, ◌<◌, ◌+◌, ◌-◌, ◌*◌, ◌^◌, ℕ, true, length, SomeIff, IfSome, IfNone};
 ghost use Rattle.rank_order.specs.Decimal.{AreDigits, is_digit, number_of};

@@ -1,4 +1,4 @@
-// Entries of a map of prefixes.
+//! Entries of a map of prefixes.
 
 ghost use Rattle.std.specs.Prelude.{◌≡◌, ◌≤◌, ◌<◌, ◌+◌, length, IfSome};
 ghost use Rattle.std.specs.List.{prefix_len};
@@ -105,7 +105,8 @@ fn split_some(len: usize, text: &[u8]) -> Option<(&[u8], &[u8])>
 }
 
 fn split_quote(quote: u8, text: &[u8]) -> Option<(&[u8], &[u8])>
-    ensures { option_map (λ parts. (parts.0.now, parts.1.now)) result ≡ split_quote text.now (quote_at quote 0 text.now) }
+    ensures { option_map (λ parts. (parts.0.now, parts.1.now)) result ≡
+        split_quote text.now (quote_at quote 0 text.now) }
 {
     match quote_at(quote, text) {
         Some(at) => Some((&text[..at], &text[at + 1..])),

@@ -1,3 +1,5 @@
+//! Where in a header its lines lead.
+
 /// Where in a header the lines so far lead.
 #[derive(Clone, Copy, Debug, PartialEq, Eq)]
 pub enum Place {

@@ -1,4 +1,4 @@
-// Reading a header line by line.
+//! A header, line by line.
 
 ghost use Rattle.std.specs.Prelude.{◌≡◌};
 ghost use Rattle.sssom_head.specs.Contents.{indentation};
@@ -18,7 +18,8 @@ pub fn take_line(
     prefixes: &mut PrefixMap,
     content: &[u8],
 ) -> Result<Place, HeadFault>
-    ensures { IsStep (step line (record { place = place; prefixes = prefixes.old }) content.now) result prefixes.new }
+    ensures { IsStep (step line (record { place = place; prefixes = prefixes.old }) content.now)
+        result prefixes.new }
 {
     match map_text(content) {
         Some(text) => map_line(line, place, content, text),
@@ -28,7 +29,8 @@ pub fn take_line(
 
 // A line with which a map may begin, with this text behind the colon.
 fn map_line(line: u64, place: Place, content: &[u8], text: &[u8]) -> Result<Place, HeadFault>
-    ensures { (prefixes : Prefixes) → IsStep (map_line line place prefixes content.now text.now) result prefixes }
+    ensures { (prefixes : Prefixes) →
+        IsStep (map_line line place prefixes content.now text.now) result prefixes }
 {
     if place != Place::Before {
         return Err(HeadFault::MapForm { line });
@@ -87,7 +89,8 @@ fn with_entry(
     prefixes: &mut PrefixMap,
     content: &[u8],
 ) -> Result<Place, HeadFault>
-    ensures { IsStep (with_entry line map (indentation content.now) prefixes.old (entry_of content.now)) result prefixes.new }
+    ensures { let read = with_entry line map (indentation content.now) in
+        IsStep (read prefixes.old (entry_of content.now)) result prefixes.new }
 {
     let Some((key, value)) = entry_of(content) else {
         return Err(HeadFault::MapForm { line });

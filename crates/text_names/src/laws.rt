@@ -23,10 +23,11 @@ pub fn names_stay_distinct()
         AreDistinct names → AreDistinct (with_name names name) }
 {}
 
-/// Of two offsets in a text the smaller one has the earlier place. Numbers of lines and columns stop
-/// at `u64::MAX`, so this is said of a text that fits memory.
+/// Of two offsets in a text the smaller one has the earlier place. Numbers of lines and columns
+/// stop at `u64::MAX`, so this is said of a text that fits memory.
 pub fn places_ascend()
-    ensures { (text : List ℕ) (one other : ℕ) → one < other → other ≤ length text → length text < 2 ^ 63 →
+    ensures { (text : List ℕ) (one other : ℕ) → one < other →
+        other ≤ length text → length text < 2 ^ 63 →
         IsUtf8 (take one text) → IsUtf8 (take other text) →
         IsPlaceBefore (place_after (take one text)) (place_after (take other text)) }
 {}

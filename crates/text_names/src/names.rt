@@ -1,3 +1,5 @@
+//! Names with numbers.
+
 ghost use Rattle.std.specs.Prelude.{◌≡◌, ◌++◌, ◌∷◌, ◌<◌, ◌≤◌, [], None, Some, length, slice_get, IsUtf8, IfOk, IfErr, OnOk, OnErr};
 ghost use Rattle.text_names.specs.Names.{number_of, number_or_next, with_name};
 ghost use Rattle.text_names.specs.NameKeys.{hash_of, key_behind};

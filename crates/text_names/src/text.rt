@@ -1,3 +1,5 @@
+//! Texts in UTF-8.
+
 ghost use Rattle.std.specs.Prelude.{◌≡◌, ◌++◌, IfOk, IsUtf8};
 
 use std::alloc::{AllocError, Global};
