@@ -9,7 +9,7 @@ use Rattle.ofn_lex.specs.declared.token.TokenKind.TheVariants.{Open, Close, Equa
 use Rattle.ofn_lex.specs.Bytes.{is_white_space, begins_gap, is_run_byte}
 use Rattle.ofn_lex.specs.Ends.{gap_end}
 use Rattle.ofn_lex.specs.Forms.{GapPart, gap_bytes, IsGap, HasForm}
-use Rattle.ofn_lex.specs.Reading.{token_at, or_fault, first_of, past_gap, next_of}
+use Rattle.ofn_lex.specs.NextToken.{token_at, or_fault, first_of, past_gap, next_of}
 use Rattle.ofn_lex.specs.Texts.{NoneLonger, BeginsNone, IsNext, IsAnswer, IsLast, HasTokens, HasReading}
 use Rattle.ofn_lex.proofs.EndLaws.{equal, gap_found, gap_again, BeginsNoGap}
 use Rattle.ofn_lex.proofs.TokenLaws.{IsFront, IsFrontIfSome, token_is_front, first_token, Reaches, form_is_read}

@@ -8,7 +8,7 @@ use Rattle.ofn_lex.specs.declared.token.TokenKind.TheVariants.{Open, Close, Equa
 use Rattle.ofn_lex.specs.Bytes.{is_iri_byte, is_language_byte, is_run_byte}
 use Rattle.ofn_lex.specs.Ends.{iri_end, quoted_end, span_end, some_span_end, carets_end}
 use Rattle.ofn_lex.specs.Forms.{HasForm, QuotedPart, IsQuotedPart, quoted_bytes}
-use Rattle.ofn_lex.specs.Reading.{token_to, token_at}
+use Rattle.ofn_lex.specs.NextToken.{token_to, token_at}
 use Rattle.ofn_lex.proofs.EndLaws.{equal, span_found, span_reaches, iri_found, iri_again, quoted_found, quoted_again}
 
 -- the token is a front of the bytes, which begin at the offset n, and has the form of its kind

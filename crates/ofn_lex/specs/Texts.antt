@@ -29,7 +29,7 @@ pub record IsNext (text : List ℕ) (from : ℕ) (token : Token) : Type 0 where
   pub ends : token.end ≡ token.start + length own
 
 -- nothing but a gap is left
-pub record IsDone (text : List ℕ) (from : ℕ) : Type 0 where
+pub record IsAtEnd (text : List ℕ) (from : ℕ) : Type 0 where
   pub gap : List GapPart
   pub whole : drop from text ≡ gap_bytes gap
   pub passed : IsGap gap []
@@ -47,13 +47,13 @@ pub record IsStuck (text : List ℕ) (from : ℕ) (fault : LexFault) : Type 0 wh
 
 -- what the format has at an offset
 abbrev pub IsAnswer : List ℕ → ℕ → Result (Option Token) LexFault → Type 0
-IsAnswer text from (Ok None) = IsDone text from
+IsAnswer text from (Ok None) = IsAtEnd text from
 IsAnswer text from (Ok (Some token)) = IsNext text from token
 IsAnswer text from (Err fault) = IsStuck text from fault
 
 -- what stands behind the last token: a gap to the end of the text, or a fault
 abbrev pub IsLast : List ℕ → ℕ → Option LexFault → Type 0
-IsLast text from None = IsDone text from
+IsLast text from None = IsAtEnd text from
 IsLast text from (Some fault) = IsStuck text from fault
 
 -- from the offset on, gaps and these tokens in turn, and then what is last

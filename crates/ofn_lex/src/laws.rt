@@ -3,7 +3,7 @@
 ghost use Rattle.std.specs.Prelude.{◌≡◌, ◌≤◌, ◌∷◌, [], ℕ, List, ◌++◌, Option, Result, Ok, Some, All, codes};
 ghost use Rattle.std.specs.Str.{encode_utf8_all};
 ghost use Rattle.ofn_lex.specs.Forms.{HasForm};
-ghost use Rattle.ofn_lex.specs.Reading.{next_of};
+ghost use Rattle.ofn_lex.specs.NextToken.{next_of};
 ghost use Rattle.ofn_lex.specs.Texts.{IsNext, IsAnswer, HasTokens, HasReading, IsTokenOf, StandInOrder};
 ghost use Rattle.ofn_lex.specs.declared.token.Token.{Token};
 ghost use Rattle.ofn_lex.specs.declared.token.LexFault.{LexFault};

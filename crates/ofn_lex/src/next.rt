@@ -3,7 +3,7 @@
 ghost use Rattle.std.specs.Prelude.{◌≡◌, ◌≤◌, ◌<◌, ◌+◌, ◌^◌, length, ℕ, IsUtf8, IfSome, IfOk, IfErr};
 ghost use Rattle.std.specs.Str.{IsCharBoundary};
 ghost use Rattle.ofn_lex.specs.Texts.{IsAnswer, CutsAtCharacters};
-ghost use Rattle.ofn_lex.specs.Reading.{token_to, token_at, first_of, next_of};
+ghost use Rattle.ofn_lex.specs.NextToken.{token_to, token_at, first_of, next_of};
 
 use crate::bytes::is_run_byte;
 use crate::ends::{carets_end, gap_end, iri_end, language_end, quoted_end, run_end};

@@ -3,7 +3,7 @@
 ghost use Rattle.std.specs.Prelude.{◌≡◌, ◌≤◌, ◌<◌, ℕ, List, [], ◌∷◌, ◌++◌, length, true, false, IfOk, IfErr, IfSome, IfNone, MatchOption};
 ghost use Rattle.ofn_term.specs.Words.{is_open, is_close};
 ghost use Rattle.ofn_term.specs.Writing.{Piece, atom, closing, pieces, opening_pieces};
-ghost use Rattle.ofn_term.specs.Reading.{pieces_of, first_open, bracket_fault, begins_close, IsFaultUnlessMemory};
+ghost use Rattle.ofn_term.specs.Inside.PieceReading.{pieces_of, first_open, bracket_fault, begins_close, IsFaultUnlessMemory};
 
 use crate::words::{is_close, is_open, is_word};
 use crate::{Item, Items, TermFault};

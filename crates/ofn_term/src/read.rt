@@ -3,7 +3,7 @@
 ghost use Rattle.std.specs.Prelude.{◌≡◌, ◌≤◌, length, IfOk, IfErr, OnOk, MatchResult, None, All, IsUtf8};
 ghost use Rattle.ofn_term.specs.Texts.{HasItems, IsFirstFault, IsOfCharacters, IsAtCharacter};
 ghost use Rattle.ofn_term.specs.Writing.{pieces, tokens_of};
-ghost use Rattle.ofn_term.specs.Reading.{pieces_of, bracket_fault, IsFaultUnlessMemory};
+ghost use Rattle.ofn_term.specs.Inside.PieceReading.{pieces_of, bracket_fault, IsFaultUnlessMemory};
 
 use crate::groups::{Level, front, items_at};
 use crate::tokens::all_tokens;

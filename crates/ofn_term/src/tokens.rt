@@ -2,7 +2,7 @@
 
 ghost use Rattle.std.specs.Prelude.{◌≤◌, ℕ, List, length, IfOk, IfErr, MatchResult, None, All, IsUtf8};
 ghost use Rattle.ofn_lex.specs.Texts.{HasTokens};
-ghost use Rattle.ofn_term.specs.Reading.{IsLexFault};
+ghost use Rattle.ofn_term.specs.Inside.PieceReading.{IsLexFault};
 ghost use Rattle.ofn_term.specs.Texts.{IsOfCharacters, IsAtCharacter};
 
 use crate::TermFault;

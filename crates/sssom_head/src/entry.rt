@@ -4,8 +4,8 @@ ghost use Rattle.std.specs.Prelude.{◌≡◌, ◌≤◌, ◌<◌, ◌+◌, leng
 ghost use Rattle.std.specs.List.{prefix_len};
 ghost use Rattle.std.specs.Option.{option_map};
 ghost use Rattle.std.specs.Str.{is_utf8};
-ghost use Rattle.sssom_head.specs.Entries.{is_quote, is_quoted_byte, is_key_byte, is_mark, is_value_byte};
-ghost use Rattle.sssom_head.specs.Reading.{split_some, quote_at, split_quote, key_in, value_in, behind_some_spaces, behind_colon, ends_entry, entry_in, entry_of};
+ghost use Rattle.sssom_head.specs.Entries.{is_quote, is_quoted_byte, is_key_byte, is_indicator, is_value_byte};
+ghost use Rattle.sssom_head.specs.HeaderSteps.{split_some, quote_at, split_quote, key_in, value_in, behind_some_spaces, behind_colon, ends_entry, entry_in, entry_of};
 
 use crate::content::behind_spaces;
 use crate::lines::begins_with_hash;
@@ -28,8 +28,8 @@ fn is_key_byte(byte: u8) -> bool
     matches!(byte, b'0'..=b'9' | b'A'..=b'Z' | b'a'..=b'z' | b'_' | b'.' | b'-')
 }
 
-fn is_mark(byte: u8) -> bool
-    ensures { result ≡ is_mark byte }
+fn is_indicator(byte: u8) -> bool
+    ensures { result ≡ is_indicator byte }
 {
     matches!(
         byte,
@@ -136,7 +136,7 @@ fn split_value(text: &[u8]) -> Option<(&[u8], &[u8])>
     if is_quote(*first) {
         return split_quote(*first, rest);
     }
-    if is_mark(*first) {
+    if is_indicator(*first) {
         return None;
     }
     split_some(value_len(text), text)

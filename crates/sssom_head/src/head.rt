@@ -3,9 +3,9 @@
 ghost use Rattle.std.specs.Prelude.{◌≡◌, ◌≤◌, [], length, IfOk, OnOk};
 ghost use Rattle.text_names.specs.Prefixes.{with_prefix};
 ghost use Rattle.sssom_head.specs.BuiltIn.{with_built_in};
-ghost use Rattle.sssom_head.specs.Heads.{AreRead, IsReadAs, IsHeader};
+ghost use Rattle.sssom_head.specs.Heads.{AreRead, IsHeadRead, IsHeader};
 
-use crate::Place;
+use crate::MapPlace;
 use crate::lines::{content_of, split_header_line};
 use crate::reading::take_line;
 use std::alloc::{AllocError, Global};
@@ -42,7 +42,7 @@ pub struct Head {
 /// and the table are not read. The fault is that of the first line that is wrong.
 #[tactic(auto, using(crate::proofs::HeaderLaws::header_is))]
 pub fn read_head(alloc: Global, bytes: &[u8]) -> Result<Head, HeadFault>
-    ensures answer { IsReadAs bytes.now result }
+    ensures answer { IsHeadRead bytes.now result }
     ensures header { IsHeader bytes.now result }
     ensures within { IfOk result (λ head. head.length ≤ length bytes.now) }
 {
@@ -62,7 +62,7 @@ fn read_lines(bytes: &[u8], prefixes: &mut PrefixMap) -> Result<usize, HeadFault
     ensures answer { AreRead bytes.now result prefixes.new }
     ensures within { IfOk result (λ len. len ≤ length bytes.now) }
 {
-    let mut place = Place::Before;
+    let mut place = MapPlace::Before;
     let mut rest = bytes;
     let mut line = 0u64;
     while let Some((first, behind)) = split_header_line(rest) {

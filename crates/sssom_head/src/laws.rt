@@ -8,7 +8,7 @@ ghost use Rattle.sssom_head.specs.Contents.{is_blank, map_text, is_empty_map};
 ghost use Rattle.sssom_head.specs.Entries.{IsEntry};
 ghost use Rattle.sssom_head.specs.Headers.{IsReading};
 ghost use Rattle.sssom_head.specs.Lines.{lines_of, header_lines, bytes_in, begins_with_hash, contents_of, trimmed, AreLines, IsTrimmed};
-ghost use Rattle.sssom_head.specs.Reading.{Answer, entry_in, run, start};
+ghost use Rattle.sssom_head.specs.HeaderSteps.{Answer, entry_in, run, start};
 
 /// What is read line by line is what the lines say, and they say nothing else: no line is wrong and
 /// the map has these entries, or this line is the first that is wrong.

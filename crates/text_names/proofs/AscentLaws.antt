@@ -8,7 +8,8 @@ use Rattle.std.proofs.lemmas.Bool.{cases_lt}
 use Rattle.std.proofs.lemmas.List.{append-nil, length-take-le, take-append-drop, take-take}
 use Rattle.std.proofs.lemmas.List.Sums.{sum_by-cons, sum_by-append, count_by-le-length}
 use Rattle.std.proofs.lemmas.Str.{chars-append, encodes-chars, length-le-encodes}
-use Rattle.text_names.specs.Place.{is_line_feed, in_64_bits, line_after, column_after, place_after, IsPlaceBefore}
+use Rattle.byte_words.specs.Bytes.{is_line_feed}
+use Rattle.text_names.specs.Place.{in_64_bits, line_after, column_after, place_after, IsPlaceBefore}
 use Rattle.text_names.proofs.PlaceLaws.{column_past, column_back_all}
 
 -- columns over a front and what follows it

@@ -13,7 +13,7 @@ use Rattle.std.proofs.lemmas.List.{append-nil, append_assoc, map_push}
 use Rattle.text_names.specs.Names.{number_of, number_or_next, AreDistinct}
 use Rattle.indexmap.specs.IndexMap.{IndexMap, insert_entry}
 use Rattle.indexmap.proofs.CallerLemmas.{insert_entry-new}
-use Rattle.text_names.specs.NameKeys.{hash_of, count_with_hash, key_behind, keys_behind, IsKept}
+use Rattle.text_names.specs.Inside.NameKeys.{hash_of, count_with_hash, key_behind, keys_behind, IsKept}
 
 -- the key of the names of hash h that has o such names before it
 abbrev pub is_key : ℕ → ℕ → ℕ × ℕ → Bool

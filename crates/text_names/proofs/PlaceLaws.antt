@@ -9,7 +9,8 @@ use Rattle.std.proofs.lemmas.List.{reverse-append, reverse-reverse, length-rever
 use Rattle.std.proofs.lemmas.List.Sums.{sum_by-cons, prefix_len-le-length}
 use Rattle.std.proofs.lemmas.Str.{encode_ascii, encodes-chars}
 use lib.Utf8.{encode, next}
-use Rattle.text_names.specs.Place.{is_line_feed, in_64_bits, line_after, column_after}
+use Rattle.byte_words.specs.Bytes.{is_line_feed}
+use Rattle.text_names.specs.Place.{in_64_bits, line_after, column_after}
 
 -- the byte goes on with a character
 abbrev pub is_tail : ℕ → Bool

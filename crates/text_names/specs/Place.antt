@@ -1,11 +1,9 @@
 -- Where in a text a front of it ends.
-use Rattle.std.specs.Prelude.{◌≡◌, ◌<◌, ◌⊎◌, ℕ, ◌+◌, ◌-◌, ◌^◌, ◌==◌, Bool, List, length, min, count_by}
+use Rattle.std.specs.Prelude.{◌≡◌, ◌<◌, ◌⊎◌, ℕ, ◌+◌, ◌-◌, ◌^◌, List, length, min, count_by}
 use Rattle.std.specs.List.{after_last}
 use Rattle.std.specs.Str.{chars}
+use Rattle.byte_words.specs.Bytes.{is_line_feed}
 use Rattle.text_names.specs.declared.place.Place.{Place}
-
-abbrev pub is_line_feed : ℕ → Bool
-is_line_feed c = c == 10
 
 -- a number in 64 bits, which stops at the greatest
 abbrev pub in_64_bits : ℕ → ℕ

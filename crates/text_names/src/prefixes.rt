@@ -34,7 +34,7 @@ pub struct PrefixMap {
 impl Model for PrefixMap {
     ghost use Rattle.std.specs.Prelude.{List, ℕ};
     ghost use Rattle.std.specs.String.{string_bytes};
-    ghost use Rattle.text_names.specs.Entries.{by_bytes};
+    ghost use Rattle.text_names.specs.Inside.Entries.{by_bytes};
 
     ghost Value = { List (List ℕ × List ℕ) };
 

@@ -31,11 +31,11 @@ impl Model for Text {
 }
 
 impl Text {
-    ghost use Rattle.text_names.specs.Text.{IsReadAs};
+    ghost use Rattle.text_names.specs.Text.{IsTextOf};
 
     /// The text of these bytes. No memory is asked for before they are known to be UTF-8.
     pub fn of(alloc: Global, bytes: &[u8]) -> Result<Text, TextFault>
-        ensures { IsReadAs bytes.now result }
+        ensures { IsTextOf bytes.now result }
     {
         match str::from_utf8(bytes) {
             Ok(text) => match String::from_str(alloc, text) {
