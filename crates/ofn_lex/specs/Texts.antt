@@ -16,7 +16,7 @@ NoneLonger n bytes = (kind : TokenKind) (front others : List ℕ) → HasForm ki
 abbrev pub BeginsNone : List ℕ → Type 0
 BeginsNone bytes = (kind : TokenKind) (front others : List ℕ) → HasForm kind front → bytes ≡ front ++ others → ⊥
 
--- behind a gap stands this token, the longest there
+-- after a gap stands this token, the longest there
 pub record IsNext (text : List ℕ) (from : ℕ) (token : Token) : Type 0 where
   pub gap : List GapPart
   pub own : List ℕ
@@ -34,7 +34,7 @@ pub record IsAtEnd (text : List ℕ) (from : ℕ) : Type 0 where
   pub whole : drop from text ≡ gap_bytes gap
   pub passed : IsGap gap []
 
--- behind a gap stands a byte that begins neither a gap nor a token
+-- after a gap stands a byte that begins neither a gap nor a token
 pub record IsStuck (text : List ℕ) (from : ℕ) (fault : LexFault) : Type 0 where
   pub gap : List GapPart
   pub byte : ℕ
@@ -51,7 +51,7 @@ IsAnswer text from (Ok None) = IsAtEnd text from
 IsAnswer text from (Ok (Some token)) = IsNext text from token
 IsAnswer text from (Err fault) = IsStuck text from fault
 
--- what stands behind the last token: a gap to the end of the text, or a fault
+-- what follows the last token: a gap to the end of the text, or a fault
 abbrev pub IsLast : List ℕ → ℕ → Option LexFault → Type 0
 IsLast text from None = IsAtEnd text from
 IsLast text from (Some fault) = IsStuck text from fault
