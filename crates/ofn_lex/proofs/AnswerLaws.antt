@@ -1,5 +1,5 @@
 -- What is read at an offset is what the format has there, and nothing else is; so a text has one list of tokens.
-use Rattle.std.proofs.Common.{◌≡◌, ◌≤◌, ◌<◌, ℕ, zero, suc, ◌+◌, ◌-◌, Bool, true, false, List, [], ◌∷◌, ◌++◌, length, drop, refl, ap, sym, subst, ◌∙◌, arith, Option, Some, None, Result, Ok, Err, append-nil, length-append, length-drop}
+use Rattle.std.proofs.Common.{◌≡◌, ◌≤◌, ◌<◌, ℕ, zero, suc, ◌+◌, ◌-◌, Bool, true, false, List, [], ◌∷◌, ◌++◌, length, drop, refl, ap, sym, subst, ◌∙◌, arith, Option, Some, None, Result, Ok, Err, append-nil, eqb-true, length-append, length-drop}
 use Rattle.std.specs.Prelude.{◌==◌, ◌||◌}
 use Rattle.std.proofs.lemmas.List.{drop-drop, drop_at}
 use Rattle.ofn_lex.specs.declared.token.Token.{Token}
@@ -9,9 +9,9 @@ use Rattle.ofn_lex.specs.declared.token.TokenKind.TheVariants.{Open, Close, Equa
 use Rattle.ofn_lex.specs.Bytes.{is_white_space, begins_gap, is_run_byte}
 use Rattle.ofn_lex.specs.Ends.{gap_end}
 use Rattle.ofn_lex.specs.Forms.{GapPart, gap_bytes, IsGap, HasForm}
-use Rattle.ofn_lex.specs.Reading.{token_at, or_fault, first_of, past_gap, next_of}
+use Rattle.ofn_lex.specs.NextToken.{token_at, or_fault, first_of, past_gap, next_of}
 use Rattle.ofn_lex.specs.Texts.{NoneLonger, BeginsNone, IsNext, IsAnswer, IsLast, HasTokens, HasReading}
-use Rattle.ofn_lex.proofs.EndLaws.{equal, gap_found, gap_again, BeginsNoGap}
+use Rattle.ofn_lex.proofs.EndLaws.{gap_found, gap_again, BeginsNoGap}
 use Rattle.ofn_lex.proofs.TokenLaws.{IsFront, IsFrontIfSome, token_is_front, first_token, Reaches, form_is_read}
 
 pub drop_behind : (text : List ℕ) (from : ℕ) (front rest : List ℕ) → drop from text ≡ front ++ rest → drop (from + length front) text ≡ rest
@@ -69,7 +69,7 @@ next_behind_gap text from gap rest whole passed stops =
 
 run_begins_no_gap : (v w : Bool) (b : ℕ) → is_white_space b ≡ v → (b == 35) ≡ w → is_run_byte b ≡ true → (v || w) ≡ false
 run_begins_no_gap true w b i j e = cc
-run_begins_no_gap false true b i j e = let same = ap is_run_byte (equal b 35 j) in cc
+run_begins_no_gap false true b i j e = let same = ap is_run_byte (eqb-true b 35 j) in cc
 run_begins_no_gap false false b i j e = refl
 
 -- a token begins no gap
@@ -159,7 +159,8 @@ same_kind : (o : Option Token) (one other : TokenKind) (m n : ℕ) → Reaches o
 same_kind None one other m n h k = absurd h
 same_kind (Some token) one other m n h k = sym h.0 ∙ k.0
 
-form_has_bytes : (kind : TokenKind) (own : List ℕ) → HasForm kind own → 1 ≤ length own
+-- a token is not empty
+pub form_has_bytes : (kind : TokenKind) (own : List ℕ) → HasForm kind own → 1 ≤ length own
 form_has_bytes Open own form = omega (arith, ap length form)
 form_has_bytes Close own form = omega (arith, ap length form)
 form_has_bytes Equals own form = omega (arith, ap length form)
@@ -170,7 +171,7 @@ form_has_bytes Carets own form = omega (arith, ap length form)
 form_has_bytes Run own form = form.0
 
 -- a token ends past the offset and within the text
-next_ends : (text : List ℕ) (from : ℕ) (token : Token) → IsNext text from token → (from < token.end) × (token.end ≤ length text)
+pub next_ends : (text : List ℕ) (from : ℕ) (token : Token) → IsNext text from token → (from < token.end) × (token.end ≤ length text)
 next_ends text from token h =
     let some : 1 ≤ length h.own = form_has_bytes token.kind h.own h.form in
     let size : length (gap_bytes h.gap) + (length h.own + length h.rest) ≡ length text - from = simp (length-append, length-drop) at (sym (ap length h.whole)) in

@@ -9,6 +9,7 @@ use Rattle.std.proofs.lemmas.Str.{encode_ascii, encodes-append, encodes_same, co
 use lib.Utf8.{encode, next}
 use Rattle.ofn_lex.specs.declared.token.TokenKind.{TokenKind}
 use Rattle.ofn_lex.specs.declared.token.TokenKind.TheVariants.{Open, Close, Equals, FullIri, Quoted, Lang, Carets, Run}
+use Rattle.byte_words.specs.Lists.{AllPassing}
 use Rattle.ofn_lex.specs.Bytes.{is_iri_byte, is_escaped, is_language_byte, is_run_byte}
 use Rattle.ofn_lex.specs.Forms.{HasForm, QuotedPart, plain, escaped, IsQuotedPart, quoted_bytes}
 
@@ -30,9 +31,6 @@ encode_is_high c high = high_step (nat_lt c 128) (nat_lt c 2048) (nat_lt c 65536
 -- every byte past ASCII passes
 abbrev PassesHigh : (ℕ → Bool) → Type 0
 PassesHigh passes = (b : ℕ) → 128 ≤ b → passes b ≡ true
-
-abbrev AllPassing : (ℕ → Bool) → List ℕ → Type 0
-AllPassing passes bytes = AllByRecursion (λ b. passes b ≡ true) bytes
 
 all_append : (passes : ℕ → Bool) (xs ys : List ℕ) → AllPassing passes xs → AllPassing passes ys → AllPassing passes (xs ++ ys)
 all_append passes [] ys all more = more

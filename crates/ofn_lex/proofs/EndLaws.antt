@@ -1,50 +1,48 @@
 -- Where a gap or token ends, by its form.
-use Rattle.std.proofs.Common.{◌≡◌, ◌≤◌, ℕ, ◌+◌, Bool, true, false, cond, List, [], ◌∷◌, ◌++◌, length, refl, ap, sym, ◌∙◌, arith, Option, Some, None, append_assoc, length-append}
-use Rattle.std.specs.Prelude.{◌==◌, nat_lt, not, ◌&&◌, ◌||◌, ⊤}
-use Rattle.std.specs.List.{AllByRecursion}
+use Rattle.std.proofs.Common.{◌≡◌, ◌≤◌, ℕ, ◌+◌, Bool, true, false, cond, List, [], ◌∷◌, ◌++◌, length, refl, ap, sym, ◌∙◌, arith, Option, Some, None, append_assoc, length-append, eqb-true}
+use Rattle.std.specs.Prelude.{◌==◌, nat_lt, not, ◌&&◌, ◌||◌}
+use Rattle.std.specs.List.{AllByRecursion, prefix_len}
 use Rattle.std.proofs.lemmas.Bool.Decides.{nat_tests}
+use Rattle.byte_words.specs.Lists.{AllPassing, AllFailing, BeginsWithout}
 use Rattle.ofn_lex.specs.Bytes.{ends_line, is_white_space, begins_gap, is_iri_byte, is_escaped}
 use Rattle.ofn_lex.specs.Ends.{gap_end, comment_end, iri_end, quoted_end, escape_end, span_end}
 use Rattle.ofn_lex.specs.Forms.{GapPart, white, comment, gap_bytes, EndsLine, IsGap, QuotedPart, plain, escaped, IsQuotedPart, quoted_bytes}
-
-pub equal : (b k : ℕ) → (b == k) ≡ true → b ≡ k
-equal b k e = grind (arith, nat_tests)
 
 -- the bytes begin with some that pass the test, which end at m
 pub record IsSpan (passes : ℕ → Bool) (n : ℕ) (bytes : List ℕ) (m : ℕ) : Type 0 where
   pub own : List ℕ
   pub rest : List ℕ
-  pub all : AllByRecursion (λ b. passes b ≡ true) own
+  pub all : AllPassing passes own
   pub whole : bytes ≡ own ++ rest
   pub ends : m ≡ n + length own
 
-span_step : (passes : ℕ → Bool) (v : Bool) (n b : ℕ) (bs : List ℕ) → passes b ≡ v → IsSpan passes (n + 1) bs (span_end passes (n + 1) bs) → IsSpan passes n (b ∷ bs) (cond v (span_end passes (n + 1) bs) n)
+-- one byte more at the front
+span_step : (passes : ℕ → Bool) (v : Bool) (n b : ℕ) (bs : List ℕ) → passes b ≡ v → IsSpan passes n bs (span_end passes n bs) → IsSpan passes n (b ∷ bs) (n + cond v (1 + prefix_len passes bs) 0)
 span_step passes true n b bs e h = record { own = b ∷ h.own; rest = h.rest; all = (e, h.all); whole = ap (λ (l : List ℕ). b ∷ l) h.whole; ends = omega (arith, h.ends) }
 span_step passes false n b bs e h = record { own = []; rest = b ∷ bs; all = tt; whole = refl; ends = omega arith }
 
+-- the bytes that pass, from the front on
 pub span_found : (passes : ℕ → Bool) (n : ℕ) (bs : List ℕ) → IsSpan passes n bs (span_end passes n bs)
 span_found passes n [] = record { own = []; rest = []; all = tt; whole = refl; ends = omega arith }
-span_found passes n (b ∷ bs) = span_step passes (passes b) n b bs refl (span_found passes (n + 1) bs)
+span_found passes n (b ∷ bs) = span_step passes (passes b) n b bs refl (span_found passes n bs)
 
-span_grows : (passes : ℕ → Bool) (n : ℕ) (bs : List ℕ) → n ≤ span_end passes n bs
-span_grows passes n bs = let h = span_found passes n bs in omega (arith, h.ends)
-
-pub span_reaches : (passes : ℕ → Bool) (n : ℕ) (own rest : List ℕ) → AllByRecursion (λ b. passes b ≡ true) own → n + length own ≤ span_end passes n (own ++ rest)
-span_reaches passes n [] rest all = omega (arith, span_grows passes n rest)
-span_reaches passes n (b ∷ bs) rest all = let h = span_reaches passes (n + 1) bs rest all.1 in rw all.0 (omega (arith, h))
+-- they go on as long as bytes pass
+pub span_reaches : (passes : ℕ → Bool) (n : ℕ) (own rest : List ℕ) → AllPassing passes own → n + length own ≤ span_end passes n (own ++ rest)
+span_reaches passes n [] rest all = omega arith
+span_reaches passes n (b ∷ bs) rest all = let h = span_reaches passes n bs rest all.1 in rw all.0 (omega (arith, h))
 
 -- the bytes behind < go on to the > that ends at m
 pub record IsIri (n : ℕ) (bytes : List ℕ) (m : ℕ) : Type 0 where
   pub inner : List ℕ
   pub rest : List ℕ
-  pub all : AllByRecursion (λ b. is_iri_byte b ≡ true) inner
+  pub all : AllPassing is_iri_byte inner
   pub whole : bytes ≡ inner ++ 62 ∷ rest
   pub ends : m ≡ n + length inner + 1
 
 iri_step : (c v : Bool) (n b m : ℕ) (bs : List ℕ) → (b == 62) ≡ c → is_iri_byte b ≡ v → (iri_end (n + 1) bs ≡ Some m → IsIri (n + 1) bs m) → cond c (Some (n + 1)) (cond v (iri_end (n + 1) bs) None) ≡ Some m → IsIri n (b ∷ bs) m
 iri_step true v n b m bs c i h e =
     let ends : n + 1 ≡ m = cc in
-    record { inner = []; rest = bs; all = tt; whole = ap (λ (x : ℕ). x ∷ bs) (equal b 62 c); ends = omega arith }
+    record { inner = []; rest = bs; all = tt; whole = ap (λ (x : ℕ). x ∷ bs) (eqb-true b 62 c); ends = omega arith }
 iri_step false true n b m bs c i h e = let r = h e in record { inner = b ∷ r.inner; rest = r.rest; all = (i, r.all); whole = ap (λ (l : List ℕ). b ∷ l) r.whole; ends = omega (arith, r.ends) }
 iri_step false false n b m bs c i h e = cc
 
@@ -65,7 +63,7 @@ iri_again_step true v n m o c w e = cc
 iri_again_step false true n m o c w e = e
 iri_again_step false false n m o c w e = cc
 
-pub iri_again : (n : ℕ) (inner rest : List ℕ) → AllByRecursion (λ b. is_iri_byte b ≡ true) inner → iri_end n (inner ++ 62 ∷ rest) ≡ Some (n + length inner + 1)
+pub iri_again : (n : ℕ) (inner rest : List ℕ) → AllPassing is_iri_byte inner → iri_end n (inner ++ 62 ∷ rest) ≡ Some (n + length inner + 1)
 iri_again n [] rest all = ap Some (omega arith)
 iri_again n (b ∷ bs) rest all =
     let other : (b == 62) ≡ false = no_end (nat_lt 32 b) (b == 60) (b == 62) all.0 in
@@ -95,14 +93,14 @@ neither false v e f = f
 quoted_step : (c v : Bool) (n b m : ℕ) (bs : List ℕ) → (b == 34) ≡ c → (b == 92) ≡ v → (quoted_end (n + 1) bs ≡ Some m → IsQuoted (n + 1) bs m) → (escape_end (n + 1) bs ≡ Some m → IsEscape (n + 1) bs m) → cond c (Some (n + 1)) (cond v (escape_end (n + 1) bs) (quoted_end (n + 1) bs)) ≡ Some m → IsQuoted n (b ∷ bs) m
 quoted_step true v n b m bs c i h g e =
     let ends : n + 1 ≡ m = cc in
-    record { parts = []; rest = bs; all = tt; whole = ap (λ (x : ℕ). x ∷ bs) (equal b 34 c); ends = omega arith }
+    record { parts = []; rest = bs; all = tt; whole = ap (λ (x : ℕ). x ∷ bs) (eqb-true b 34 c); ends = omega arith }
 quoted_step false true n b m bs c i h g e =
     let r = g e in
     record {
       parts = escaped r.byte ∷ r.quoted.parts;
       rest = r.quoted.rest;
       all = (r.is, r.quoted.all);
-      whole = ap (λ (x : ℕ). x ∷ bs) (equal b 92 i) ∙ ap (λ (l : List ℕ). 92 ∷ l) (r.whole ∙ ap (λ (l : List ℕ). r.byte ∷ l) r.quoted.whole);
+      whole = ap (λ (x : ℕ). x ∷ bs) (eqb-true b 92 i) ∙ ap (λ (l : List ℕ). 92 ∷ l) (r.whole ∙ ap (λ (l : List ℕ). r.byte ∷ l) r.quoted.whole);
       ends = omega (arith, r.quoted.ends);
     }
 quoted_step false false n b m bs c i h g e =
@@ -139,8 +137,7 @@ quoted_again n (escaped b ∷ parts) rest all =
 
 -- the bytes are none, or the first begins no gap
 abbrev pub BeginsNoGap : List ℕ → Type 0
-BeginsNoGap [] = ⊤
-BeginsNoGap (b ∷ bs) = begins_gap b ≡ false
+BeginsNoGap bytes = BeginsWithout begins_gap bytes
 
 -- the bytes begin with a gap that ends at m
 pub record IsGapTo (n : ℕ) (bytes : List ℕ) (m : ℕ) : Type 0 where
@@ -157,7 +154,7 @@ record IsCommentTo (n : ℕ) (bytes : List ℕ) (m : ℕ) : Type 0 where
   gap : List GapPart
   rest : List ℕ
   whole : bytes ≡ inner ++ (gap_bytes gap ++ rest)
-  all : AllByRecursion (λ b. ends_line b ≡ false) inner
+  all : AllFailing ends_line inner
   line : EndsLine (gap_bytes gap ++ rest)
   passed : IsGap gap rest
   stops : BeginsNoGap rest
@@ -169,7 +166,7 @@ gap_step false true n b bs i j h g =
     record {
       gap = comment g.inner ∷ g.gap;
       rest = g.rest;
-      whole = ap (λ (x : ℕ). x ∷ bs) (equal b 35 j) ∙ ap (λ (l : List ℕ). 35 ∷ l) (g.whole ∙ sym (append_assoc g.inner (gap_bytes g.gap) g.rest));
+      whole = ap (λ (x : ℕ). x ∷ bs) (eqb-true b 35 j) ∙ ap (λ (l : List ℕ). 35 ∷ l) (g.whole ∙ sym (append_assoc g.inner (gap_bytes g.gap) g.rest));
       passed = (g.all, g.line, g.passed);
       stops = g.stops;
       ends = simp length-append (omega (arith, g.ends));
@@ -199,7 +196,7 @@ mutual
   comment_found n [] = record { inner = []; gap = []; rest = []; whole = refl; all = tt; line = tt; passed = tt; stops = tt; ends = omega arith }
   comment_found n (b ∷ bs) = comment_step (ends_line b) n b bs refl (gap_found (n + 1) bs) (comment_found (n + 1) bs)
 
-comment_again : (n : ℕ) (inner tail : List ℕ) → AllByRecursion (λ b. ends_line b ≡ false) inner → EndsLine tail → comment_end n (inner ++ tail) ≡ gap_end (n + length inner) tail
+comment_again : (n : ℕ) (inner tail : List ℕ) → AllFailing ends_line inner → EndsLine tail → comment_end n (inner ++ tail) ≡ gap_end (n + length inner) tail
 comment_again n [] [] all line = omega arith
 comment_again n [] (b ∷ bs) all line =
     let is : is_white_space b ≡ true = line_is_white b line in

@@ -3,3 +3,4 @@ pub mod TokenLaws
 pub mod AnswerLaws
 pub mod CharacterLaws
 pub mod CharacterForms
+pub mod OrderLaws

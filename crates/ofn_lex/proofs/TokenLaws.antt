@@ -1,15 +1,16 @@
 -- A token that is read has its form, and no front with a form is longer.
-use Rattle.std.proofs.Common.{◌≡◌, ◌≤◌, ℕ, ◌+◌, Bool, true, false, cond, List, [], ◌∷◌, ◌++◌, length, refl, ap, sym, subst, ◌∙◌, arith, Option, Some, None, append_assoc, length-append}
+use Rattle.std.proofs.Common.{◌≡◌, ◌≤◌, ℕ, ◌+◌, Bool, true, false, cond, List, [], ◌∷◌, ◌++◌, length, refl, ap, sym, subst, ◌∙◌, arith, Option, Some, None, append_assoc, eqb-true, length-append}
 use Rattle.std.specs.Prelude.{◌==◌, ⊤}
 use Rattle.std.specs.List.{AllByRecursion}
 use Rattle.ofn_lex.specs.declared.token.Token.{Token}
 use Rattle.ofn_lex.specs.declared.token.TokenKind.{TokenKind}
 use Rattle.ofn_lex.specs.declared.token.TokenKind.TheVariants.{Open, Close, Equals, FullIri, Quoted, Lang, Carets, Run}
+use Rattle.byte_words.specs.Lists.{AllPassing}
 use Rattle.ofn_lex.specs.Bytes.{is_iri_byte, is_language_byte, is_run_byte}
 use Rattle.ofn_lex.specs.Ends.{iri_end, quoted_end, span_end, some_span_end, carets_end}
 use Rattle.ofn_lex.specs.Forms.{HasForm, QuotedPart, IsQuotedPart, quoted_bytes}
-use Rattle.ofn_lex.specs.Reading.{token_to, token_at}
-use Rattle.ofn_lex.proofs.EndLaws.{equal, span_found, span_reaches, iri_found, iri_again, quoted_found, quoted_again}
+use Rattle.ofn_lex.specs.NextToken.{token_to, token_at}
+use Rattle.ofn_lex.proofs.EndLaws.{span_found, span_reaches, iri_found, iri_again, quoted_found, quoted_again}
 
 -- the token is a front of the bytes, which begin at the offset n, and has the form of its kind
 pub record IsFront (n : ℕ) (bytes : List ℕ) (token : Token) : Type 0 where
@@ -30,7 +31,7 @@ by_test false n bytes x y f g = g refl
 
 -- a token of one byte
 one_front : (kind : TokenKind) (n b k : ℕ) (bs : List ℕ) → HasForm kind (k ∷ []) → (b == k) ≡ true → IsFrontIfSome n (b ∷ bs) (token_to kind n (Some (n + 1)))
-one_front kind n b k bs form e = record { own = k ∷ []; rest = bs; whole = ap (λ (x : ℕ). x ∷ bs) (equal b k e); form = form; starts = refl; ends = refl }
+one_front kind n b k bs form e = record { own = k ∷ []; rest = bs; whole = ap (λ (x : ℕ). x ∷ bs) (eqb-true b k e); form = form; starts = refl; ends = refl }
 
 iri_front : (n b : ℕ) (bs : List ℕ) (o : Option ℕ) → iri_end (n + 1) bs ≡ o → (b == 60) ≡ true → IsFrontIfSome n (b ∷ bs) (token_to FullIri n o)
 iri_front n b bs None i e = tt
@@ -39,7 +40,7 @@ iri_front n b bs (Some m) i e =
     record {
       own = 60 ∷ (r.inner ++ 62 ∷ []);
       rest = r.rest;
-      whole = ap (λ (x : ℕ). x ∷ bs) (equal b 60 e) ∙ ap (λ (l : List ℕ). 60 ∷ l) (r.whole ∙ sym (append_assoc r.inner (62 ∷ []) r.rest));
+      whole = ap (λ (x : ℕ). x ∷ bs) (eqb-true b 60 e) ∙ ap (λ (l : List ℕ). 60 ∷ l) (r.whole ∙ sym (append_assoc r.inner (62 ∷ []) r.rest));
       form = (r.inner, r.all, refl);
       starts = refl;
       ends = simp length-append (omega (arith, r.ends));
@@ -52,7 +53,7 @@ quoted_front n b bs (Some m) i e =
     record {
       own = 34 ∷ (quoted_bytes r.parts ++ 34 ∷ []);
       rest = r.rest;
-      whole = ap (λ (x : ℕ). x ∷ bs) (equal b 34 e) ∙ ap (λ (l : List ℕ). 34 ∷ l) (r.whole ∙ sym (append_assoc (quoted_bytes r.parts) (34 ∷ []) r.rest));
+      whole = ap (λ (x : ℕ). x ∷ bs) (eqb-true b 34 e) ∙ ap (λ (l : List ℕ). 34 ∷ l) (r.whole ∙ sym (append_assoc (quoted_bytes r.parts) (34 ∷ []) r.rest));
       form = (r.parts, r.all, refl);
       starts = refl;
       ends = simp length-append (omega (arith, r.ends));
@@ -64,7 +65,7 @@ lang_step true n b c bs i e =
     record {
       own = 64 ∷ c ∷ r.own;
       rest = r.rest;
-      whole = ap (λ (x : ℕ). x ∷ c ∷ bs) (equal b 64 e) ∙ ap (λ (l : List ℕ). 64 ∷ c ∷ l) r.whole;
+      whole = ap (λ (x : ℕ). x ∷ c ∷ bs) (eqb-true b 64 e) ∙ ap (λ (l : List ℕ). 64 ∷ c ∷ l) r.whole;
       form = (c ∷ r.own, omega arith, (i, r.all), refl);
       starts = refl;
       ends = omega (arith, r.ends);
@@ -76,7 +77,7 @@ lang_front n b [] e = tt
 lang_front n b (c ∷ bs) e = lang_step (is_language_byte c) n b c bs refl e
 
 carets_step : (v : Bool) (n b c : ℕ) (bs : List ℕ) → (c == 94) ≡ v → (b == 94) ≡ true → IsFrontIfSome n (b ∷ c ∷ bs) (token_to Carets n (cond v (Some (n + 1 + 1)) None))
-carets_step true n b c bs i e = record { own = 94 ∷ 94 ∷ []; rest = bs; whole = ap (λ (x : ℕ). x ∷ c ∷ bs) (equal b 94 e) ∙ ap (λ (x : ℕ). 94 ∷ x ∷ bs) (equal c 94 i); form = refl; starts = refl; ends = omega arith }
+carets_step true n b c bs i e = record { own = 94 ∷ 94 ∷ []; rest = bs; whole = ap (λ (x : ℕ). x ∷ c ∷ bs) (eqb-true b 94 e) ∙ ap (λ (x : ℕ). 94 ∷ x ∷ bs) (eqb-true c 94 i); form = refl; starts = refl; ends = omega arith }
 carets_step false n b c bs i e = tt
 
 carets_front : (n b : ℕ) (bs : List ℕ) → (b == 94) ≡ true → IsFrontIfSome n (b ∷ bs) (token_to Carets n (carets_end (n + 1) bs))
@@ -113,7 +114,7 @@ reaches_end : (kind : TokenKind) (n m k : ℕ) (o : Option ℕ) → o ≡ Some k
 reaches_end kind n m k None e h = absurd (cc)
 reaches_end kind n m k (Some j) e h = let same : j ≡ k = cc in (refl, omega arith)
 
-iri_reaches : (n : ℕ) (inner rest : List ℕ) → AllByRecursion (λ b. is_iri_byte b ≡ true) inner → Reaches FullIri (n + length (60 ∷ (inner ++ 62 ∷ []))) (first_token n ((60 ∷ (inner ++ 62 ∷ [])) ++ rest))
+iri_reaches : (n : ℕ) (inner rest : List ℕ) → AllPassing is_iri_byte inner → Reaches FullIri (n + length (60 ∷ (inner ++ 62 ∷ []))) (first_token n ((60 ∷ (inner ++ 62 ∷ [])) ++ rest))
 iri_reaches n inner rest all =
     reaches_end FullIri n _ (n + 1 + length inner + 1) _ (ap (iri_end (n + 1)) (append_assoc inner (62 ∷ []) rest) ∙ iri_again (n + 1) inner rest all) (simp length-append (omega arith))
 
@@ -121,14 +122,14 @@ quoted_reaches : (n : ℕ) (parts : List QuotedPart) (rest : List ℕ) → AllBy
 quoted_reaches n parts rest all =
     reaches_end Quoted n _ (n + 1 + length (quoted_bytes parts) + 1) _ (ap (quoted_end (n + 1)) (append_assoc (quoted_bytes parts) (34 ∷ []) rest) ∙ quoted_again (n + 1) parts rest all) (simp length-append (omega arith))
 
-lang_reaches : (n : ℕ) (inner rest : List ℕ) → 1 ≤ length inner → AllByRecursion (λ b. is_language_byte b ≡ true) inner → Reaches Lang (n + length (64 ∷ inner)) (first_token n ((64 ∷ inner) ++ rest))
+lang_reaches : (n : ℕ) (inner rest : List ℕ) → 1 ≤ length inner → AllPassing is_language_byte inner → Reaches Lang (n + length (64 ∷ inner)) (first_token n ((64 ∷ inner) ++ rest))
 lang_reaches n [] rest some all = absurd (omega arith)
 lang_reaches n (b ∷ bs) rest some all =
     let reached = span_reaches is_language_byte (n + 1 + 1) bs rest all.1 in
     reaches_end Lang n _ (span_end is_language_byte (n + 1 + 1) (bs ++ rest)) _ (rw all.0 refl) (omega (arith, reached))
 
 differs_step : (c : Bool) (b k : ℕ) → (b == k) ≡ c → is_run_byte b ≡ true → is_run_byte k ≡ false → c ≡ false
-differs_step true b k e p q = let same = ap is_run_byte (equal b k e) in cc
+differs_step true b k e p q = let same = ap is_run_byte (eqb-true b k e) in cc
 differs_step false b k e p q = refl
 
 differs : (b k : ℕ) → is_run_byte b ≡ true → is_run_byte k ≡ false → (b == k) ≡ false
@@ -149,7 +150,7 @@ run_is_read n b bs p =
     skip (b == 94) _ _ (differs b 94 p refl) ∙
     (rw p refl)
 
-run_reaches : (n : ℕ) (own rest : List ℕ) → 1 ≤ length own → AllByRecursion (λ b. is_run_byte b ≡ true) own → Reaches Run (n + length own) (first_token n (own ++ rest))
+run_reaches : (n : ℕ) (own rest : List ℕ) → 1 ≤ length own → AllPassing is_run_byte own → Reaches Run (n + length own) (first_token n (own ++ rest))
 run_reaches n [] rest some all = absurd (omega arith)
 run_reaches n (b ∷ bs) rest some all =
     let reached = span_reaches is_run_byte (n + 1) bs rest all.1 in

@@ -1,6 +1,7 @@
 -- The bytes that gaps and tokens are made of. Each byte that a test names is ASCII, so that a character
 -- past ASCII and each of its bytes pass the same tests.
-use Rattle.std.specs.Prelude.{ℕ, Bool, not, ◌&&◌, ◌||◌, ◌==◌, nat_le, nat_lt}
+use Rattle.std.specs.Prelude.{ℕ, Bool, not, ◌&&◌, ◌||◌, ◌==◌, nat_lt, codes}
+use Rattle.byte_words.specs.Bytes.{is_letter_or_digit, is_one_of}
 
 -- line feed, carriage return
 abbrev pub ends_line : ℕ → Bool
@@ -18,17 +19,17 @@ begins_gap b = is_white_space b || b == 35
 abbrev pub is_iri_byte : ℕ → Bool
 is_iri_byte b = nat_lt 32 b && not (b == 60) && not (b == 62)
 
--- " or \, which a quoted text holds behind a \ alone
+-- " or \, which a quoted text has only after a \
 abbrev pub is_escaped : ℕ → Bool
 is_escaped b = b == 34 || b == 92
 
 -- a letter, a digit or -
 abbrev pub is_language_byte : ℕ → Bool
-is_language_byte b = (nat_le 48 b && nat_le b 57) || (nat_le 65 b && nat_le b 90) || (nat_le 97 b && nat_le b 122) || b == 45
+is_language_byte b = is_letter_or_digit b || b == 45
 
 -- ( ) < > " = # @ ^ \
 abbrev pub is_mark : ℕ → Bool
-is_mark b = b == 40 || b == 41 || b == 60 || b == 62 || b == 34 || b == 61 || b == 35 || b == 64 || b == 94 || b == 92
+is_mark b = is_one_of (codes "()<>\"=#@^\\") b
 
 -- neither white space nor a mark
 abbrev pub is_run_byte : ℕ → Bool

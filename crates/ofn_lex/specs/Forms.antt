@@ -1,6 +1,7 @@
 -- The forms of gaps and tokens, as the format has them.
 use Rattle.std.specs.Prelude.{◌≡◌, ◌≤◌, ℕ, List, [], ◌∷◌, ◌++◌, length, true, false, ⊤}
 use Rattle.std.specs.List.{AllByRecursion}
+use Rattle.byte_words.specs.Lists.{AllPassing, AllFailing}
 use Rattle.ofn_lex.specs.Bytes.{ends_line, is_white_space, is_iri_byte, is_escaped, is_language_byte, is_run_byte}
 use Rattle.ofn_lex.specs.declared.token.TokenKind.{TokenKind}
 use Rattle.ofn_lex.specs.declared.token.TokenKind.TheVariants.{Open, Close, Equals, FullIri, Quoted, Lang, Carets, Run}
@@ -27,9 +28,9 @@ EndsLine (b ∷ bs) = ends_line b ≡ true
 abbrev pub IsGap : List GapPart → List ℕ → Type 0
 IsGap [] rest = ⊤
 IsGap (white b ∷ parts) rest = (is_white_space b ≡ true) × IsGap parts rest
-IsGap (comment inner ∷ parts) rest = AllByRecursion (λ b. ends_line b ≡ false) inner × EndsLine (gap_bytes parts ++ rest) × IsGap parts rest
+IsGap (comment inner ∷ parts) rest = AllFailing ends_line inner × EndsLine (gap_bytes parts ++ rest) × IsGap parts rest
 
--- a byte of a quoted text that is neither " nor \, or one of these two behind \
+-- a byte of a quoted text that is neither " nor \, or one of these two after \
 pub data QuotedPart : Type 0 where
   plain : (b : ℕ) → QuotedPart
   escaped : (b : ℕ) → QuotedPart
@@ -48,8 +49,8 @@ abbrev pub HasForm : TokenKind → List ℕ → Type 0
 HasForm Open bytes = bytes ≡ 40 ∷ []
 HasForm Close bytes = bytes ≡ 41 ∷ []
 HasForm Equals bytes = bytes ≡ 61 ∷ []
-HasForm FullIri bytes = (inner : List ℕ) × AllByRecursion (λ b. is_iri_byte b ≡ true) inner × (bytes ≡ 60 ∷ (inner ++ 62 ∷ []))
+HasForm FullIri bytes = (inner : List ℕ) × AllPassing is_iri_byte inner × (bytes ≡ 60 ∷ (inner ++ 62 ∷ []))
 HasForm Quoted bytes = (parts : List QuotedPart) × AllByRecursion IsQuotedPart parts × (bytes ≡ 34 ∷ (quoted_bytes parts ++ 34 ∷ []))
-HasForm Lang bytes = (inner : List ℕ) × (1 ≤ length inner) × AllByRecursion (λ b. is_language_byte b ≡ true) inner × (bytes ≡ 64 ∷ inner)
+HasForm Lang bytes = (inner : List ℕ) × (1 ≤ length inner) × AllPassing is_language_byte inner × (bytes ≡ 64 ∷ inner)
 HasForm Carets bytes = bytes ≡ 94 ∷ 94 ∷ []
-HasForm Run bytes = (1 ≤ length bytes) × AllByRecursion (λ b. is_run_byte b ≡ true) bytes
+HasForm Run bytes = (1 ≤ length bytes) × AllPassing is_run_byte bytes

@@ -1,5 +1,5 @@
 pub mod Bytes
 pub mod Ends
-pub mod Reading
+pub mod NextToken
 pub mod Forms
 pub mod Texts

@@ -1,5 +1,6 @@
 -- A text as gaps and tokens in turn.
-use Rattle.std.specs.Prelude.{◌≡◌, ◌≤◌, ℕ, ◌+◌, List, [], ◌∷◌, ◌++◌, length, drop, false, Option, Some, None, Result, Ok, Err, ⊤}
+use Rattle.std.specs.Prelude.{◌≡◌, ◌≤◌, ◌<◌, ℕ, ◌+◌, ◌&&◌, nat_le, if◌then◌else◌, List, [], ◌∷◌, ◌++◌, length, drop, slice_range, false, Option, Some, None, Result, Ok, Err, ⊤}
+use Rattle.std.specs.List.{AllByRecursion}
 use Rattle.std.specs.Str.{IsCharBoundary}
 use Rattle.ofn_lex.specs.Bytes.{begins_gap}
 use Rattle.ofn_lex.specs.Forms.{GapPart, gap_bytes, IsGap, HasForm}
@@ -15,7 +16,7 @@ NoneLonger n bytes = (kind : TokenKind) (front others : List ℕ) → HasForm ki
 abbrev pub BeginsNone : List ℕ → Type 0
 BeginsNone bytes = (kind : TokenKind) (front others : List ℕ) → HasForm kind front → bytes ≡ front ++ others → ⊥
 
--- behind a gap stands this token, the longest there
+-- after a gap stands this token, the longest there
 pub record IsNext (text : List ℕ) (from : ℕ) (token : Token) : Type 0 where
   pub gap : List GapPart
   pub own : List ℕ
@@ -28,12 +29,12 @@ pub record IsNext (text : List ℕ) (from : ℕ) (token : Token) : Type 0 where
   pub ends : token.end ≡ token.start + length own
 
 -- nothing but a gap is left
-pub record IsDone (text : List ℕ) (from : ℕ) : Type 0 where
+pub record IsAtEnd (text : List ℕ) (from : ℕ) : Type 0 where
   pub gap : List GapPart
   pub whole : drop from text ≡ gap_bytes gap
   pub passed : IsGap gap []
 
--- behind a gap stands a byte that begins neither a gap nor a token
+-- after a gap stands a byte that begins neither a gap nor a token
 pub record IsStuck (text : List ℕ) (from : ℕ) (fault : LexFault) : Type 0 where
   pub gap : List GapPart
   pub byte : ℕ
@@ -46,13 +47,13 @@ pub record IsStuck (text : List ℕ) (from : ℕ) (fault : LexFault) : Type 0 wh
 
 -- what the format has at an offset
 abbrev pub IsAnswer : List ℕ → ℕ → Result (Option Token) LexFault → Type 0
-IsAnswer text from (Ok None) = IsDone text from
+IsAnswer text from (Ok None) = IsAtEnd text from
 IsAnswer text from (Ok (Some token)) = IsNext text from token
 IsAnswer text from (Err fault) = IsStuck text from fault
 
--- what stands behind the last token: a gap to the end of the text, or a fault
+-- what follows the last token: a gap to the end of the text, or a fault
 abbrev pub IsLast : List ℕ → ℕ → Option LexFault → Type 0
-IsLast text from None = IsDone text from
+IsLast text from None = IsAtEnd text from
 IsLast text from (Some fault) = IsStuck text from fault
 
 -- from the offset on, gaps and these tokens in turn, and then what is last
@@ -71,3 +72,18 @@ abbrev pub CutsAtCharacters : List ℕ → Result (Option Token) LexFault → Ty
 CutsAtCharacters text (Ok None) = ⊤
 CutsAtCharacters text (Ok (Some token)) = IsCharBoundary text token.start × IsCharBoundary text token.end
 CutsAtCharacters text (Err fault) = IsCharBoundary text fault.offset
+
+-- the bytes of a token, or none where it is not within the text
+abbrev pub bytes_of : List ℕ → Token → List ℕ
+bytes_of text token = if nat_le token.start token.end && nat_le token.end (length text) then slice_range text token.start token.end else []
+
+-- the token takes up one byte or more of the text, and these have the form of its kind
+pub record IsTokenOf (text : List ℕ) (token : Token) : Type 0 where
+  pub some : token.start < token.end
+  pub within : token.end ≤ length text
+  pub form : HasForm token.kind (bytes_of text token)
+
+-- each token ends at or before the start of each later one
+abbrev pub StandInOrder : List Token → Type 0
+StandInOrder [] = ⊤
+StandInOrder (token ∷ tokens) = AllByRecursion (λ later. token.end ≤ later.start) tokens × StandInOrder tokens

@@ -1,3 +1,5 @@
+//! The bytes that gaps and tokens are made of.
+
 ghost use Rattle.std.specs.Prelude.{◌≡◌};
 ghost use Rattle.ofn_lex.specs.Bytes.{ends_line, is_white_space, is_iri_byte, is_escaped, is_language_byte, is_mark, is_run_byte};
 

@@ -1,6 +1,7 @@
-// Where gaps and tokens end. Each function is given the bytes of a text from the offset `at` on.
+//! Where gaps and tokens end. Each function is given the bytes of a text from the offset `at` on.
 
 ghost use Rattle.std.specs.Prelude.{◌≡◌, ◌≤◌, ◌<◌, ◌+◌, ◌^◌, length, IfSome};
+ghost use Rattle.std.specs.List.{prefix_len};
 ghost use Rattle.ofn_lex.specs.Bytes.{is_language_byte, is_run_byte};
 ghost use Rattle.ofn_lex.specs.Ends.{gap_end, iri_end, quoted_end, span_end, some_span_end, carets_end};
 
@@ -35,7 +36,7 @@ pub fn gap_end(at: usize, bytes: &[u8]) -> usize
     end
 }
 
-// Behind `<`.
+// After `<`.
 pub fn iri_end(at: usize, bytes: &[u8]) -> Option<usize>
     requires { at + length bytes.now < 2 ^ 63 }
     ensures end { result ≡ iri_end at bytes.now }
@@ -55,7 +56,7 @@ pub fn iri_end(at: usize, bytes: &[u8]) -> Option<usize>
     None
 }
 
-// Behind the first quotation mark.
+// After the first quotation mark.
 pub fn quoted_end(at: usize, bytes: &[u8]) -> Option<usize>
     requires { at + length bytes.now < 2 ^ 63 }
     ensures end { result ≡ quoted_end at bytes.now }
@@ -87,17 +88,17 @@ pub fn run_end(at: usize, bytes: &[u8]) -> usize
     ensures from { at ≤ result }
     ensures within { result ≤ at + length bytes.now }
 {
-    let mut end = at;
-    for byte in bytes {
-        if !is_run_byte(*byte) {
-            return end;
-        }
-        end += 1;
-    }
-    end
+    at + run_len(bytes)
 }
 
-// Behind `@`.
+fn run_len(bytes: &[u8]) -> usize
+    ensures len { result ≡ prefix_len is_run_byte bytes.now }
+    ensures within { result ≤ length bytes.now }
+{
+    bytes.iter().take_while(|byte| is_run_byte(**byte)).count()
+}
+
+// After `@`.
 pub fn language_end(at: usize, bytes: &[u8]) -> Option<usize>
     requires { at + length bytes.now < 2 ^ 63 }
     ensures end { result ≡ some_span_end is_language_byte at bytes.now }
@@ -119,17 +120,20 @@ fn subtags_end(at: usize, bytes: &[u8]) -> usize
     ensures from { at ≤ result }
     ensures within { result ≤ at + length bytes.now }
 {
-    let mut end = at;
-    for byte in bytes {
-        if !is_language_byte(*byte) {
-            return end;
-        }
-        end += 1;
-    }
-    end
+    at + language_len(bytes)
 }
 
-// Behind the first `^`.
+fn language_len(bytes: &[u8]) -> usize
+    ensures len { result ≡ prefix_len is_language_byte bytes.now }
+    ensures within { result ≤ length bytes.now }
+{
+    bytes
+        .iter()
+        .take_while(|byte| is_language_byte(**byte))
+        .count()
+}
+
+// After the first `^`.
 pub fn carets_end(at: usize, bytes: &[u8]) -> Option<usize>
     requires { at + length bytes.now < 2 ^ 63 }
     ensures end { result ≡ carets_end at bytes.now }

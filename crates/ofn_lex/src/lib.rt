@@ -10,7 +10,7 @@ mod token;
 pub use laws::{
     each_text_has_one_list_of_tokens, first_bytes_tell_the_kind,
     forms_are_the_same_for_characters_and_bytes, least_forms_are_told_apart,
-    what_is_read_is_what_the_format_has,
+    tokens_have_their_forms, what_is_read_is_what_the_format_has,
 };
 pub use next::next_token;
 pub use token::{LexFault, Token, TokenKind};

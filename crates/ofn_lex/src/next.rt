@@ -1,23 +1,28 @@
+//! The next token of a text.
+
 ghost use Rattle.std.specs.Prelude.{◌≡◌, ◌≤◌, ◌<◌, ◌+◌, ◌^◌, length, ℕ, IsUtf8, IfSome, IfOk, IfErr};
 ghost use Rattle.std.specs.Str.{IsCharBoundary};
 ghost use Rattle.ofn_lex.specs.Texts.{IsAnswer, CutsAtCharacters};
-ghost use Rattle.ofn_lex.specs.Reading.{token_to, token_at, first_of, next_of};
+ghost use Rattle.ofn_lex.specs.NextToken.{token_to, token_at, first_of, next_of};
 
 use crate::bytes::is_run_byte;
 use crate::ends::{carets_end, gap_end, iri_end, language_end, quoted_end, run_end};
 use crate::{LexFault, Token, TokenKind};
 
-/// The next token of a text from an offset on, or nothing where white space and comments alone are
+/// The next token of a text from an offset on, or nothing if only white space and comments are
 /// left. White space is space, tab, line feed and carriage return; a comment goes from `#` to the
 /// end of its line. A token is the longest that its first byte allows.
 pub fn next_token(text: &[u8], from: usize) -> Result<Option<Token>, LexFault>
     requires { from ≤ length text.now }
     ensures answer { result ≡ next_of text.now from }
     ensures format { IsAnswer text.now from result }
-    ensures characters { IsUtf8 text.now → IsCharBoundary text.now from → CutsAtCharacters text.now result }
-    ensures past { IfOk result (λ token. IfSome token (λ token. (from ≤ token.start) × (token.start < token.end))) }
+    ensures characters { IsUtf8 text.now → IsCharBoundary text.now from →
+        CutsAtCharacters text.now result }
+    ensures past { IfOk result (λ token. IfSome token (λ token.
+        (from ≤ token.start) × (token.start < token.end))) }
     ensures within { IfOk result (λ token. IfSome token (λ token. token.end ≤ length text.now)) }
-    ensures fault { IfErr result (λ fault. (from ≤ fault.offset) × (fault.offset < length text.now)) }
+    ensures fault { IfErr result (λ fault.
+        (from ≤ fault.offset) × (fault.offset < length text.now)) }
 {
     let at = gap_end(from, &text[from..]);
     first_of(at, &text[at..])
@@ -26,9 +31,12 @@ pub fn next_token(text: &[u8], from: usize) -> Result<Option<Token>, LexFault>
 fn first_of(at: usize, bytes: &[u8]) -> Result<Option<Token>, LexFault>
     requires { at + length bytes.now < 2 ^ 63 }
     ensures answer { result ≡ first_of at bytes.now }
-    ensures past { IfOk result (λ token. IfSome token (λ token. (at ≤ token.start) × (token.start < token.end))) }
-    ensures within { IfOk result (λ token. IfSome token (λ token. token.end ≤ at + length bytes.now)) }
-    ensures fault { IfErr result (λ fault. (at ≤ fault.offset) × (fault.offset < at + length bytes.now)) }
+    ensures past { IfOk result (λ token. IfSome token (λ token.
+        (at ≤ token.start) × (token.start < token.end))) }
+    ensures within { IfOk result (λ token. IfSome token (λ token.
+        token.end ≤ at + length bytes.now)) }
+    ensures fault { IfErr result (λ fault.
+        (at ≤ fault.offset) × (fault.offset < at + length bytes.now)) }
 {
     let [first, rest @ ..] = bytes else {
         return Ok(None);
@@ -203,8 +211,8 @@ mod tests {
             ("@a/[`{", &[(Lang, 0, 2), (Run, 2, 6)], None),
             ("@-Zz09(", &[(Lang, 0, 6), (Open, 6, 7)], None),
             ("a:b/c,d'e", &[(Run, 0, 9)], None),
-            // A no-break space, a vertical tab and a form feed are no white space, and neither these
-            // nor a next line and a line separator end a comment.
+            // A no-break space, a vertical tab and a form feed are no white space, and neither
+            // these nor a next line and a line separator end a comment.
             ("\u{a0}\u{b}\u{c}", &[(Run, 0, 4)], None),
             ("#\u{b}\u{c}\u{85}\u{2028})\n(", &[(Open, 10, 11)], None),
             ("\u{0}\u{8}\u{e}\u{1f}", &[(Run, 0, 4)], None),

@@ -1,3 +1,5 @@
+//! Tokens, and the fault that none begins.
+
 use thiserror::Error;
 
 /// What a token is.

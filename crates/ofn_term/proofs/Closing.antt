@@ -7,7 +7,7 @@ use Rattle.ofn_lex.specs.declared.token.TokenKind.{TokenKind}
 use Rattle.ofn_lex.specs.declared.token.TokenKind.TheVariants.{Open, Close, Equals, FullIri, Quoted, Lang, Carets, Run}
 use Rattle.ofn_term.specs.declared.fault.TermFault.TheVariants.{Unopened, TooDeep}
 use Rattle.ofn_term.specs.Words.{is_open_kind, is_close_kind, is_open, is_close}
-use Rattle.ofn_term.specs.Reading.{first_open, bracket_fault, begins_close}
+use Rattle.ofn_term.specs.Inside.PieceReading.{first_open, bracket_fault, begins_close}
 
 pub closing_is_not_open : (kind : TokenKind) → is_close_kind kind ≡ true → is_open_kind kind ≡ false
 closing_is_not_open Open e = sym e

@@ -6,7 +6,7 @@ use Rattle.ofn_lex.specs.declared.token.Token.{Token}
 use Rattle.ofn_term.specs.declared.fault.TermFault.TheVariants.{Unopened, Unclosed, TooDeep}
 use Rattle.ofn_term.specs.Words.{is_open, is_close}
 use Rattle.ofn_term.specs.Brackets.{opens, closes, LeaveOpen, StayWithin, IsBracketAt, IsUnopened, IsTooDeep, IsUnclosed}
-use Rattle.ofn_term.specs.Reading.{first_open, bracket_fault}
+use Rattle.ofn_term.specs.Inside.PieceReading.{first_open, bracket_fault}
 use Rattle.ofn_term.proofs.Closing.{fault_at_open, closing_is_not_open}
 use Rattle.ofn_term.proofs.Faults.{Within, Never, opened, closed, open_is_not_closing, opened_one}
 

@@ -9,7 +9,7 @@ use Rattle.ofn_term.specs.declared.fault.TermFault.{TermFault}
 use Rattle.ofn_term.specs.declared.fault.TermFault.TheVariants.{Lex, Unopened, Unclosed, TooDeep, OutOfMemory}
 use Rattle.ofn_term.specs.Words.{is_open_kind, is_close_kind, is_open, is_close}
 use Rattle.ofn_term.specs.Brackets.{opens, closes, LeaveOpen, StayWithin, IsBracketAt, IsUnclosed}
-use Rattle.ofn_term.specs.Reading.{first_open, bracket_fault}
+use Rattle.ofn_term.specs.Inside.PieceReading.{first_open, bracket_fault}
 use Rattle.ofn_term.proofs.Closing.{closing_is_not_open}
 
 pub open_is_not_closing : (kind : TokenKind) → is_open_kind kind ≡ true → is_close_kind kind ≡ false

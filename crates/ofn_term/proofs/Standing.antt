@@ -9,7 +9,7 @@ use Rattle.ofn_lex.specs.Forms.{HasForm}
 use Rattle.ofn_lex.specs.Texts.{HasTokens}
 use Rattle.ofn_term.specs.Words.{is_open_kind, is_run_kind, is_bracket, is_word, begins_open}
 use Rattle.ofn_term.specs.Writing.{Piece, opening, closing, head, atom, token_of, begins_group, AreInPlace}
-use Rattle.ofn_term.specs.Reading.{piece_of, pieces_of}
+use Rattle.ofn_term.specs.Inside.PieceReading.{piece_of, pieces_of}
 
 -- a bracket takes up one byte
 abbrev IsShort : TokenKind → ℕ → ℕ → Type 0

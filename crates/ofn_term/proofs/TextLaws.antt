@@ -14,7 +14,7 @@ use Rattle.ofn_term.specs.Words.{is_open_kind, is_close_kind, is_open, is_close,
 use Rattle.ofn_term.specs.Brackets.{opens, closes}
 use Rattle.ofn_term.specs.Texts.{HasItems, HasFault, IsFirstFault, HasAnswer, reads, fails}
 use Rattle.ofn_term.specs.Writing.{Piece, opening, closing, head, atom, token_of, pieces, tokens_of, begins_group, AreInPlace, StandFor}
-use Rattle.ofn_term.specs.Reading.{piece_of, pieces_of, bracket_fault, first_open, IsFaultUnlessMemory}
+use Rattle.ofn_term.specs.Inside.PieceReading.{piece_of, pieces_of, bracket_fault, first_open, IsFaultUnlessMemory}
 use Rattle.ofn_term.proofs.Faults.{IsFaultOf, fault_said}
 use Rattle.ofn_term.proofs.FaultLaws.{unopened_found, too_deep_found, unclosed_found, none_found}
 use Rattle.ofn_term.proofs.OneList.{one_list, ArePaired, AreBeforeGroups, some_list, openings, closings, even}

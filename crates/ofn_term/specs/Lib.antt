@@ -2,4 +2,4 @@ pub mod Words
 pub mod Writing
 pub mod Brackets
 pub mod Texts
-pub mod Reading
+pub mod Inside

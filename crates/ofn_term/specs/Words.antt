@@ -1,6 +1,7 @@
 -- What a token is to the items.
-use Rattle.std.specs.Prelude.{ℕ, Bool, true, false, not, ◌&&◌, ◌||◌, ◌==◌, nat_le, if◌then◌else◌, List, [], ◌∷◌, length, slice_range}
+use Rattle.std.specs.Prelude.{ℕ, Bool, true, false, not, ◌&&◌, ◌||◌, ◌==◌, List, [], ◌∷◌}
 use Rattle.std.specs.List.{list_any}
+pub use Rattle.ofn_lex.specs.Texts.{bytes_of}
 use Rattle.ofn_lex.specs.declared.token.Token.{Token}
 use Rattle.ofn_lex.specs.declared.token.TokenKind.{TokenKind}
 use Rattle.ofn_lex.specs.declared.token.TokenKind.TheVariants.{Open, Close, Run}
@@ -28,10 +29,6 @@ is_run token = is_run_kind token.kind
 
 abbrev pub is_bracket : Token → Bool
 is_bracket token = is_open token || is_close token
-
--- the bytes of a token, or none where it is not within the text
-abbrev pub bytes_of : List ℕ → Token → List ℕ
-bytes_of text token = if nat_le token.start token.end && nat_le token.end (length text) then slice_range text token.start token.end else []
 
 -- a run without a colon
 abbrev pub is_word : List ℕ → Token → Bool

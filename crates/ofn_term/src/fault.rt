@@ -1,3 +1,5 @@
+//! Why a text has no items.
+
 ghost use Rattle.std.specs.Prelude.{◌≡◌};
 ghost use Rattle.ofn_term.specs.declared.fault.TermFault.TheVariants.{OutOfMemory};
 

@@ -1,9 +1,9 @@
-// Groups, read from tokens.
+//! Groups, read from tokens.
 
 ghost use Rattle.std.specs.Prelude.{◌≡◌, ◌≤◌, ◌<◌, ℕ, List, [], ◌∷◌, ◌++◌, length, true, false, IfOk, IfErr, IfSome, IfNone, MatchOption};
 ghost use Rattle.ofn_term.specs.Words.{is_open, is_close};
 ghost use Rattle.ofn_term.specs.Writing.{Piece, atom, closing, pieces, opening_pieces};
-ghost use Rattle.ofn_term.specs.Reading.{pieces_of, first_open, bracket_fault, begins_close, IsFaultUnlessMemory};
+ghost use Rattle.ofn_term.specs.Inside.PieceReading.{pieces_of, first_open, bracket_fault, begins_close, IsFaultUnlessMemory};
 
 use crate::words::{is_close, is_open, is_word};
 use crate::{Item, Items, TermFault};
@@ -54,11 +54,13 @@ fn first_open(level: Level, start: usize) -> usize
 
 // The bracket of the group that begins with a token, where one does.
 fn opening_of<'a>(text: &[u8], token: Token, behind: &'a [Token]) -> Option<Opening<'a>>
-    ensures none { IfNone result (is_close token ≡ false → pieces_of text.now (token ∷ behind.now) ≡ atom token ∷ pieces_of text.now behind.now) }
+    ensures none { IfNone result (is_close token ≡ false →
+        pieces_of text.now (token ∷ behind.now) ≡ atom token ∷ pieces_of text.now behind.now) }
     ensures no_bracket { IfNone result (is_open token ≡ false) }
     ensures opens { IfSome result (λ opening. is_open opening.bracket ≡ true) }
     ensures pieces { IfSome result (λ opening. pieces_of text.now (token ∷ behind.now) ≡
-        opening_pieces opening.head opening.bracket.start ++ pieces_of text.now opening.behind.now) }
+        opening_pieces opening.head opening.bracket.start
+        ++ pieces_of text.now opening.behind.now) }
     ensures faults { IfSome result (λ opening. (most depth first : ℕ) →
         bracket_fault most depth first (token ∷ behind.now) ≡
         bracket_fault most depth first (opening.bracket ∷ opening.behind.now)) }
@@ -89,7 +91,8 @@ fn opening_of<'a>(text: &[u8], token: Token, behind: &'a [Token]) -> Option<Open
 
 #[tactic(auto, using(crate::proofs::Pushing::push_atom))]
 fn push_atom(items: &mut Items, token: Token) -> Result<(), AllocError>
-    ensures { IfOk result (λ _. (rest : List Piece) → pieces items.new ++ rest ≡ pieces items.old ++ atom token ∷ rest) }
+    ensures { IfOk result (λ _. (rest : List Piece) →
+        pieces items.new ++ rest ≡ pieces items.old ++ atom token ∷ rest) }
 {
     items.push(Item::Atom(token))
 }
@@ -128,7 +131,8 @@ fn group_at<'a>(
     ensures faults { IfOk result (λ group.
         bracket_fault level.most level.depth level.first (bracket ∷ behind.now) ≡
         bracket_fault level.most level.depth level.first group.behind.now) }
-    ensures err { IfErr result (IsFaultUnlessMemory (bracket_fault level.most level.depth level.first (bracket ∷ behind.now))) }
+    ensures err { IfErr result (IsFaultUnlessMemory
+        (bracket_fault level.most level.depth level.first (bracket ∷ behind.now))) }
 {
     if level.depth >= level.most {
         return Err(TermFault::TooDeep {
@@ -163,13 +167,15 @@ pub fn items_at<'a>(
     tokens: &'a [Token],
     level: Level,
 ) -> Result<(Items, &'a [Token]), TermFault>
-    ensures pieces { IfOk result (λ found. pieces_of text.now tokens.now ≡ pieces found.0 ++ pieces_of text.now found.1.now) }
+    ensures pieces { IfOk result (λ found.
+        pieces_of text.now tokens.now ≡ pieces found.0 ++ pieces_of text.now found.1.now) }
     ensures shorter { IfOk result (λ found. length found.1.now ≤ length tokens.now) }
     ensures stops { IfOk result (λ found. begins_close found.1.now ≡ true) }
     ensures faults { IfOk result (λ found.
         bracket_fault level.most level.depth level.first tokens.now ≡
         bracket_fault level.most level.depth level.first found.1.now) }
-    ensures err { IfErr result (IsFaultUnlessMemory (bracket_fault level.most level.depth level.first tokens.now)) }
+    ensures err { IfErr result (IsFaultUnlessMemory
+        (bracket_fault level.most level.depth level.first tokens.now)) }
 {
     let mut items = Items::new(alloc);
     let mut rest = tokens;

@@ -1,3 +1,5 @@
+//! Items: tokens, and groups in brackets.
+
 use el_logic::ListOf;
 use ofn_lex::Token;
 
@@ -9,9 +11,9 @@ pub type Items = ListOf<Item>;
 pub enum Item {
     /// A token that is neither a bracket nor the head of a group.
     Atom(Token),
-    /// A group, with the word directly before its bracket as its head, where there is one. It takes up
-    /// the bytes from `start`, its opening bracket, up to `end`, behind its closing one. The head ends
-    /// at or before `start`: white space and comments may stand between.
+    /// A group, with the word directly before its bracket as its head, if there is one. It takes up
+    /// the bytes from `start`, its opening bracket, up to `end`, after its closing one. The head
+    /// ends at or before `start`: white space and comments may stand between.
     Group {
         head: Option<Token>,
         items: Items,

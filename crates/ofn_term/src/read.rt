@@ -1,7 +1,9 @@
+//! The items of a text.
+
 ghost use Rattle.std.specs.Prelude.{◌≡◌, ◌≤◌, length, IfOk, IfErr, OnOk, MatchResult, None, All, IsUtf8};
 ghost use Rattle.ofn_term.specs.Texts.{HasItems, IsFirstFault, IsOfCharacters, IsAtCharacter};
 ghost use Rattle.ofn_term.specs.Writing.{pieces, tokens_of};
-ghost use Rattle.ofn_term.specs.Reading.{pieces_of, bracket_fault, IsFaultUnlessMemory};
+ghost use Rattle.ofn_term.specs.Inside.PieceReading.{pieces_of, bracket_fault, IsFaultUnlessMemory};
 
 use crate::groups::{Level, front, items_at};
 use crate::tokens::all_tokens;
@@ -10,22 +12,24 @@ use ofn_lex::Token;
 use std::alloc::Global;
 
 /// The items of a whole text in OWL 2 functional-style syntax, with the lenient points that
-/// `docs/formats/documents.md` has. A word directly before an opening bracket, white space and comments
-/// aside, is the head of the group that the bracket begins; a run that holds a colon is no word.
+/// `docs/formats/documents.md` has. A word directly before an opening bracket, white space and
+/// comments aside, is the head of the group that the bracket begins; a run that holds a colon is no
+/// word.
 ///
-/// `depth` is how many brackets may be open at one place. It is at most 256, so that neither this call
-/// nor a drop of what it gives goes deeper.
+/// `depth` is how many brackets may be open at one place. It is at most 256, so that neither this
+/// call nor a drop of what it gives goes deeper.
 ///
-/// A fault of tokens anywhere in the text comes before any fault of brackets. Of these the first from
-/// the left is answered, and `Unclosed` only where there is no other. Brackets within quoted texts,
-/// full IRIs and comments are none.
+/// A fault of tokens anywhere in the text comes before any fault of brackets. Of these the first
+/// from the left is answered, and `Unclosed` only if there is no other. Brackets within quoted
+/// texts, full IRIs and comments are none.
 pub fn read_items(alloc: Global, text: &[u8], depth: u32) -> Result<Items, TermFault>
     requires { depth ≤ 256 }
     ensures items { IfOk result (HasItems text.now depth) }
     ensures few { IfOk result (λ items. length (tokens_of items) ≤ length text.now) }
     ensures fault { IfErr result (IsFirstFault text.now depth) }
     ensures characters { IsUtf8 text.now →
-        MatchResult result (λ items. All (IsOfCharacters text.now) (tokens_of items)) (IsAtCharacter text.now) }
+        MatchResult result (λ items. All (IsOfCharacters text.now) (tokens_of items))
+        (IsAtCharacter text.now) }
 {
     let tokens = match all_tokens(alloc, text) {
         Ok(tokens) => tokens,

@@ -1,6 +1,8 @@
+//! The tokens of a text, in a list.
+
 ghost use Rattle.std.specs.Prelude.{◌≤◌, ℕ, List, length, IfOk, IfErr, MatchResult, None, All, IsUtf8};
 ghost use Rattle.ofn_lex.specs.Texts.{HasTokens};
-ghost use Rattle.ofn_term.specs.Reading.{IsLexFault};
+ghost use Rattle.ofn_term.specs.Inside.PieceReading.{IsLexFault};
 ghost use Rattle.ofn_term.specs.Texts.{IsOfCharacters, IsAtCharacter};
 
 use crate::TermFault;
@@ -13,7 +15,8 @@ pub fn all_tokens(alloc: Global, text: &[u8]) -> Result<Vec<Token>, TermFault>
     ensures few { IfOk result (λ tokens. length tokens.items ≤ length text.now) }
     ensures err { IfErr result (IsLexFault text.now) }
     ensures characters { IsUtf8 text.now →
-        MatchResult result (λ tokens. All (IsOfCharacters text.now) tokens.items) (IsAtCharacter text.now) }
+        MatchResult result (λ tokens. All (IsOfCharacters text.now) tokens.items)
+        (IsAtCharacter text.now) }
 {
     let mut tokens = Vec::new(alloc);
     let mut at = 0;

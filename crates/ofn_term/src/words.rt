@@ -1,4 +1,4 @@
-// What a token is to the items.
+//! What a token is to the items.
 
 ghost use Rattle.std.specs.Prelude.{◌≡◌, ◌==◌, ◌&&◌};
 ghost use Rattle.std.specs.List.{list_any};

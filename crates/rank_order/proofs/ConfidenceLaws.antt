@@ -4,11 +4,11 @@ use Rattle.std.specs.Prelude.{Option, Some, None}
 use Rattle.std.proofs.Math.Nat.{eq_of_mul-eq-mul_right}
 use Rattle.std.proofs.lemmas.Nat.{pow-add}
 use Rattle.rank_order.specs.declared.decimal.DecimalText.{DecimalText}
-use Rattle.rank_order.specs.Decimal.{AreDigits, IsExponent, Exponent, Decimal, number_of, fraction_digits, exponent_digits, lowers, raised_by, lowered_by, IsDecimal, IsConfidence}
-use Rattle.rank_order.specs.Reading.{decimal_of}
-use Rattle.rank_order.specs.Parts.{HasParts, IsDecimalText}
-use Rattle.rank_order.specs.Scale.{joined_number, down_by, AreScaledBy}
-use Rattle.rank_order.proofs.PowerLaws.{number_of-append, ten_pos}
+use Rattle.rank_order.specs.Decimal.{AreDigits, IsExponent, Exponent, Decimal, digits_value, fraction_digits, exponent_digits, lowers, raised_by, lowered_by, IsDecimal, IsConfidence}
+use Rattle.rank_order.specs.DecimalTexts.{decimal_of}
+use Rattle.rank_order.specs.Inside.Parts.{HasParts, IsDecimalText}
+use Rattle.rank_order.specs.Inside.Scale.{joined_number, down_by, AreScaledBy}
+use Rattle.rank_order.proofs.PowerLaws.{digits_value-append, ten_pos}
 use Rattle.rank_order.proofs.DecimalLaws.{reads_back, is_read}
 
 -- units over the fraction of two whole numbers, and the same with all powers of ten on one side
@@ -38,24 +38,24 @@ scaled_with w w' f f' l l' x x' units ew ef el ex h =
 pub confidence_from : (text : List ℕ) (d : Decimal) (units : ℕ) → decimal_of text ≡ Some d → IsScaledDecimal d units → IsConfidence text units
 confidence_from text d units e scaled =
     let read = is_read text d e in
-    let exponent = number_of (exponent_digits d.exponent) in
+    let exponent = digits_value (exponent_digits d.exponent) in
     record {
       decimal = d;
       form = read.0;
       spelled = read.1;
       value = same_value units (joined_number d.whole (fraction_digits d.fraction)) (length (fraction_digits d.fraction)) (raised_by (lowers d.exponent) exponent) (lowered_by (lowers d.exponent) exponent)
-          (number_of (d.whole ++ fraction_digits d.fraction)) (number_of-append d.whole (fraction_digits d.fraction)) scaled.same;
+          (digits_value (d.whole ++ fraction_digits d.fraction)) (digits_value-append d.whole (fraction_digits d.fraction)) scaled.same;
       most = scaled.most;
     }
 
 pub confidence_is : (text : List ℕ) (units : ℕ) (h : IsConfidence text units) → (decimal_of text ≡ Some h.decimal) × IsScaledDecimal h.decimal units
 confidence_is text units h =
     let d = h.decimal in
-    let exponent = number_of (exponent_digits d.exponent) in (
+    let exponent = digits_value (exponent_digits d.exponent) in (
       ap decimal_of h.spelled ∙ reads_back d h.form,
       record {
         same = value_same units (joined_number d.whole (fraction_digits d.fraction)) (length (fraction_digits d.fraction)) (raised_by (lowers d.exponent) exponent) (lowered_by (lowers d.exponent) exponent)
-            (number_of (d.whole ++ fraction_digits d.fraction)) (number_of-append d.whole (fraction_digits d.fraction)) h.value;
+            (digits_value (d.whole ++ fraction_digits d.fraction)) (digits_value-append d.whole (fraction_digits d.fraction)) h.value;
         most = h.most;
       },
     )

@@ -3,7 +3,7 @@ use Rattle.std.proofs.Common.{◌≡◌, ◌∙◌, ℕ, ◌+◌, ◌≤◌, Boo
 use Rattle.std.specs.Prelude.{⊤, Option, Some, None, ◌==◌}
 use Rattle.std.proofs.lemmas.Bool.Decides.{nat_tests}
 use Rattle.rank_order.specs.Decimal.{is_digit, AreDigits, is_exponent_letter, Sign, Exponent, Decimal, sign_text, fraction_text, exponent_text, decimal_text, fraction_digits, IsExponent, IsDecimal}
-use Rattle.rank_order.specs.Reading.{front_digits, past_digits, fraction_in, past_fraction, are_digits, is_some_list, exponent_with, signed_in, exponent_in, decimal_with, decimal_of}
+use Rattle.rank_order.specs.DecimalTexts.{front_digits, past_digits, fraction_in, past_fraction, are_digits, is_some_list, exponent_with, signed_in, exponent_in, decimal_with, decimal_of}
 use Rattle.rank_order.proofs.DigitLaws.{are_front_digits}
 
 same_number : (a b : ℕ) → (a == b) ≡ true → a ≡ b

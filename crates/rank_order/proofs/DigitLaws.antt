@@ -1,7 +1,7 @@
 -- Fronts of digits.
 use Rattle.std.proofs.Common.{◌≡◌, ℕ, ◌≤◌, Bool, true, false, cond, List, [], ◌∷◌, length, take, drop, refl, ap, arith}
 use Rattle.rank_order.specs.Decimal.{is_digit, AreDigits}
-use Rattle.rank_order.specs.Reading.{front_digits, past_digits}
+use Rattle.rank_order.specs.DecimalTexts.{front_digits, past_digits}
 
 pub take_front : (text : List ℕ) → take (length (front_digits text)) text ≡ front_digits text
 take_front [] = refl

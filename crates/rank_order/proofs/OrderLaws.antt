@@ -10,7 +10,7 @@ use Rattle.std.proofs.lemmas.Bool.Decides.{nat_tests}
 use Rattle.std.proofs.lemmas.List.{length-map, get_or-map}
 use Rattle.std.proofs.lemmas.List.Elements.{All-map, All-from_get_or, All-get_or}
 use Rattle.std.proofs.lemmas.List.Sums.{sum_by-cons}
-use Rattle.std.proofs.lemmas.List.Sorted.{sum_by-IsPermutation, Contains-permutation, All-permutation, IsPermutation-map}
+use Rattle.std.proofs.lemmas.List.Sorted.{length_permutation, sum_by-IsPermutation, Contains-permutation, All-permutation, IsPermutation-map}
 use Rattle.std.proofs.lemmas.Map.Keys.{IsDistinct-from_apart, IsDistinct-IsPermutation, apart_from_distinct}
 use Rattle.rank_order.specs.declared.order.RankKey.{RankKey}
 use Rattle.rank_order.specs.Order.{IsBefore, is_before, key_at, rank_of, IsRanking}
@@ -75,6 +75,23 @@ module _ (confidences rows : List ℕ) (ranking : IsRanking confidences rows) wh
       let found = Contains-permutation numbers rows row ranking.each_once (row, inside, get_or-range_with_len 0 (length confidences) row row within ∙ zero-add row) in
       let at_place : slice_index rows found.0 ≡ row = sym (get_or_default_zero rows found.0 row found.1) ∙ found.2 in
       ap (λ other. slice_index rows (rank_of confidences other)) (sym at_place) ∙ ap (slice_index rows) (rank_of_place found.0 found.1) ∙ at_place
+
+  -- as many rows are ranked as there are confidences
+  pub ranked_count : length rows ≡ length confidences
+  ranked_count = length_permutation (range_with_len 0 (length confidences)) rows ranking.each_once ∙ length-range_with_len 0 (length confidences)
+
+  -- each is the number of a row
+  pub ranked_within : (place : ℕ) → place < length rows → slice_index rows place < length confidences
+  ranked_within place within =
+      let numbers = range_with_len 0 (length confidences) in
+      let all : All (λ row. row < length confidences) numbers = All-from_get_or (λ row. row < length confidences) numbers 0
+      (λ i inside. let few : i < length confidences = omega (arith, inside, length-range_with_len 0 (length confidences)) in
+      omega (arith, few, get_or-range_with_len 0 (length confidences) i 0 few)) in
+      All-get_or (λ row. row < length confidences) rows place 0 within (All-permutation (λ row. row < length confidences) numbers rows ranking.each_once all)
+
+  -- no row is ranked twice
+  pub ranked_once : (one other : ℕ) → one < length rows → other < length rows → slice_index rows one ≡ slice_index rows other → one ≡ other
+  ranked_once one other first second same = sym (rank_of_place one first) ∙ ap (rank_of confidences) same ∙ rank_of_place other second
 
 -- a row comes before another or behind it
 one_before : (a b : RankKey) → a.row ≢ b.row → is_before b a ≡ false → IsBefore a b

@@ -5,18 +5,18 @@ use Rattle.std.proofs.lemmas.Bool.{cases_lt}
 use Rattle.std.proofs.lemmas.Bool.Decides.{nat_tests}
 use Rattle.std.proofs.lemmas.Nat.{pow-add}
 use Rattle.std.specs.Prelude.{Option, Some, None, SomeIff, IfSome, IfNone}
-use Rattle.rank_order.specs.Decimal.{AreDigits, is_digit, number_of}
-use Rattle.rank_order.specs.Scale.{IsScaled, IsTooFine, up_by, down_by}
+use Rattle.rank_order.specs.Decimal.{AreDigits, is_digit, digits_value}
+use Rattle.rank_order.specs.Inside.Scale.{IsScaled, IsTooFine, up_by, down_by}
 
 pub ten_pos : (k : ℕ) → 1 ≤ 10 ^ k
 ten_pos k = one-le-pow k 10 (omega arith)
 
 -- the digits of two lists in a row
-pub number_of-append : (xs ys : List ℕ) → number_of (xs ++ ys) ≡ number_of xs * 10 ^ length ys + number_of ys
-number_of-append [] ys = omega arith
-number_of-append (x ∷ xs) ys =
+pub digits_value-append : (xs ys : List ℕ) → digits_value (xs ++ ys) ≡ digits_value xs * 10 ^ length ys + digits_value ys
+digits_value-append [] ys = omega arith
+digits_value-append (x ∷ xs) ys =
     let more : 10 ^ length (xs ++ ys) ≡ 10 ^ length xs * 10 ^ length ys = ap (λ (k : ℕ). 10 ^ k) (length-append xs ys) ∙ pow-add 10 (length xs) (length ys) in
-    let rest = number_of-append xs ys in
+    let rest = digits_value-append xs ys in
     grind (arith, more, rest)
 
 -- a power of ten that is larger by one or more has a factor ten more
@@ -74,10 +74,10 @@ in_front p d n q r e = let h : p * r ≡ p * (q * 10) = ap (λ (k : ℕ). p * k)
 more_digits : (p d n : ℕ) (ds : List ℕ) → (10 * p + (d - 48)) * 10 ^ length ds + n ≡ p * 10 ^ length (d ∷ ds) + ((d - 48) * 10 ^ length ds + n)
 more_digits p d n ds = in_front p (d - 48) n (10 ^ length ds) (10 ^ length (d ∷ ds)) (pow-suc 10 (length ds))
 
-pub fine_digits : (p : ℕ) (ds : List ℕ) → AreDigits ds → IsTooFine p → IsTooFine (p * 10 ^ length ds + number_of ds)
+pub fine_digits : (p : ℕ) (ds : List ℕ) → AreDigits ds → IsTooFine p → IsTooFine (p * 10 ^ length ds + digits_value ds)
 fine_digits p [] digits fine = let e : p ≡ p * 10 ^ 0 + 0 = omega arith in subst IsTooFine e fine
 fine_digits p (d ∷ ds) digits fine =
-    subst IsTooFine (more_digits p d (number_of ds) ds) (fine_digits (10 * p + (d - 48)) ds digits.1 (fine_more p (d - 48) (digit_below d digits.0) fine))
+    subst IsTooFine (more_digits p d (digits_value ds) ds) (fine_digits (10 * p + (d - 48)) ds digits.1 (fine_more p (d - 48) (digit_below d digits.0) fine))
 
 -- many zeros are too large, and few fit
 pub large : (n z : ℕ) → 1 ≤ n → 36 < z → n * 10 ^ z ≤ 10 ^ 36 → ⊥
@@ -133,25 +133,25 @@ front_of : (i : ℕ) (ds : List ℕ) → i < length ds → drop i ds ≡ get_or 
 front_of i ds l = rw (add-one, drop-cons ds i 0) refl
 
 pub digits_step : (p more whole i : ℕ) (ds : List ℕ) → i < length ds → more ≡ 10 * p + (get_or ds i 0 - 48) →
-    p * 10 ^ length (drop i ds) + number_of (drop i ds) ≡ whole → more * 10 ^ length (drop (i + 1) ds) + number_of (drop (i + 1) ds) ≡ whole
+    p * 10 ^ length (drop i ds) + digits_value (drop i ds) ≡ whole → more * 10 ^ length (drop (i + 1) ds) + digits_value (drop (i + 1) ds) ≡ whole
 digits_step p more whole i ds l e same =
     let rest = drop (i + 1) ds in
-    ap (λ (k : ℕ). k * 10 ^ length rest + number_of rest) e
-    ∙ more_digits p (get_or ds i 0) (number_of rest) rest
-    ∙ ap (λ (l : List ℕ). p * 10 ^ length l + number_of l) (sym (front_of i ds l))
+    ap (λ (k : ℕ). k * 10 ^ length rest + digits_value rest) e
+    ∙ more_digits p (get_or ds i 0) (digits_value rest) rest
+    ∙ ap (λ (l : List ℕ). p * 10 ^ length l + digits_value l) (sym (front_of i ds l))
     ∙ same
 
 pub digits_at : (i : ℕ) (ds : List ℕ) → i < length ds → AreDigits (drop i ds) → (is_digit (get_or ds i 0) ≡ true) × AreDigits (drop (i + 1) ds)
 digits_at i ds l digits = subst AreDigits (front_of i ds l) digits
 
 pub fine_step : (p whole i : ℕ) (ds : List ℕ) → i < length ds → AreDigits (drop i ds) →
-    p * 10 ^ length (drop i ds) + number_of (drop i ds) ≡ whole → IsTooFine (10 * p + (get_or ds i 0 - 48)) → IsTooFine whole
+    p * 10 ^ length (drop i ds) + digits_value (drop i ds) ≡ whole → IsTooFine (10 * p + (get_or ds i 0 - 48)) → IsTooFine whole
 fine_step p whole i ds l digits same fine =
     subst IsTooFine (digits_step p (10 * p + (get_or ds i 0 - 48)) whole i ds l refl same)
     (fine_digits (10 * p + (get_or ds i 0 - 48)) (drop (i + 1) ds) (digits_at i ds l digits).1 fine)
 
 -- a number that goes on with more digits becomes no smaller
-pub no_smaller : (p whole i : ℕ) (ds : List ℕ) → i < length ds → p * 10 ^ length (drop i ds) + number_of (drop i ds) ≡ whole → 10 * p + (get_or ds i 0 - 48) ≤ whole
+pub no_smaller : (p whole i : ℕ) (ds : List ℕ) → i < length ds → p * 10 ^ length (drop i ds) + digits_value (drop i ds) ≡ whole → 10 * p + (get_or ds i 0 - 48) ≤ whole
 no_smaller p whole i ds l same =
     let more = 10 * p + (get_or ds i 0 - 48) in
     omega (arith, digits_step p more whole i ds l refl same, no_less more (length (drop (i + 1) ds)))
@@ -169,13 +169,13 @@ at_least : (n : ℕ) → ¬ (n < 10 ^ 20) → 10 ^ 20 ≤ n
 at_least n not_small = ⊎_elim (λ (lt : n < 10 ^ 20). absurd (not_small lt)) (λ (le : 10 ^ 20 ≤ n). le) (cases_lt n (10 ^ 20))
 
 -- an exponent of 10 ^ 20 or more
-pub far_none : (m z places : ℕ) (lowers : Bool) (exponent : List ℕ) → 1 ≤ m → m % 10 ≢ 0 → z < 2 ^ 64 → places < 2 ^ 63 → ¬ (number_of exponent < 10 ^ 20) →
+pub far_none : (m z places : ℕ) (lowers : Bool) (exponent : List ℕ) → 1 ≤ m → m % 10 ≢ 0 → z < 2 ^ 64 → places < 2 ^ 63 → ¬ (digits_value exponent < 10 ^ 20) →
     (units : ℕ) → IsScaled (m * 10 ^ z) (up_by lowers exponent) (down_by places lowers exponent) units → ⊥
-far_none m z places true exponent some last zeros few far = λ units. scaled_none m z 36 (places + number_of exponent) units last (omega (arith, at_least (number_of exponent) far))
-far_none m z places false exponent some last zeros few far = λ units. scaled_far m z (36 + number_of exponent) (places + 0) units some (omega (arith, at_least (number_of exponent) far))
+far_none m z places true exponent some last zeros few far = λ units. scaled_none m z 36 (places + digits_value exponent) units last (omega (arith, at_least (digits_value exponent) far))
+far_none m z places false exponent some last zeros few far = λ units. scaled_far m z (36 + digits_value exponent) (places + 0) units some (omega (arith, at_least (digits_value exponent) far))
 
 -- no units, where the exponent raises
-pub none_at : (r : Option ℕ) (v size places : ℕ) (lowers : Bool) (exponent : List ℕ) → lowers ≡ false → number_of exponent ≡ size →
+pub none_at : (r : Option ℕ) (v size places : ℕ) (lowers : Bool) (exponent : List ℕ) → lowers ≡ false → digits_value exponent ≡ size →
     IfNone r ((units : ℕ) → IsScaled v (36 + size) places units → ⊥) →
     IfNone r ((units : ℕ) → IsScaled v (up_by lowers exponent) (down_by places lowers exponent) units → ⊥)
 none_at (Some x) v size places lowers exponent e s h = tt

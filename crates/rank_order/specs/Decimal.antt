@@ -10,9 +10,9 @@ AreDigits [] = ⊤
 AreDigits (b ∷ bs) = (is_digit b ≡ true) × AreDigits bs
 
 -- the number that digits stand for: each counts ten to the number of digits behind it
-abbrev pub number_of : List ℕ → ℕ
-number_of [] = 0
-number_of (b ∷ bs) = (b - 48) * 10 ^ length bs + number_of bs
+abbrev pub digits_value : List ℕ → ℕ
+digits_value [] = 0
+digits_value (b ∷ bs) = (b - 48) * 10 ^ length bs + digits_value bs
 
 -- e or E
 abbrev pub is_exponent_letter : ℕ → Bool
@@ -88,10 +88,10 @@ lowered_by lowers n = if lowers then n else 0
 
 -- the value of a decimal number, as a fraction of two whole numbers
 abbrev pub numerator : Decimal → ℕ
-numerator d = number_of (d.whole ++ fraction_digits d.fraction) * 10 ^ raised_by (lowers d.exponent) (number_of (exponent_digits d.exponent))
+numerator d = digits_value (d.whole ++ fraction_digits d.fraction) * 10 ^ raised_by (lowers d.exponent) (digits_value (exponent_digits d.exponent))
 
 abbrev pub denominator : Decimal → ℕ
-denominator d = 10 ^ length (fraction_digits d.fraction) * 10 ^ lowered_by (lowers d.exponent) (number_of (exponent_digits d.exponent))
+denominator d = 10 ^ length (fraction_digits d.fraction) * 10 ^ lowered_by (lowers d.exponent) (digits_value (exponent_digits d.exponent))
 
 -- the text is a decimal number from 0 to 1 that has this whole number of units, of which 10 ^ 36 are 1
 pub record IsConfidence (text : List ℕ) (units : ℕ) : Type 0 where

@@ -1,5 +1,4 @@
 pub mod Decimal
-pub mod Reading
-pub mod Parts
-pub mod Scale
+pub mod DecimalTexts
 pub mod Order
+pub mod Inside

@@ -1,6 +1,8 @@
+//! Exact confidences.
+
 ghost use Rattle.std.specs.Prelude.{◌≡◌, ◌≤◌, ◌^◌, ℕ, IfSome, IfNone, ◌<◌};
 ghost use Rattle.rank_order.specs.Decimal.{AreDigits, IsConfidence};
-ghost use Rattle.rank_order.specs.Scale.{IsTooFine, IsShort, value_of, joined_number, IsScaledBy, AreScaledBy};
+ghost use Rattle.rank_order.specs.Inside.Scale.{IsTooFine, IsShort, value_of, joined_number, IsScaledBy, AreScaledBy};
 
 use crate::decimal::read_decimal;
 use crate::number::{Number, scaled, small_number, with_digits};

@@ -1,9 +1,9 @@
-// The parts of a decimal number.
+//! The parts of a decimal number.
 
 ghost use Rattle.std.specs.Prelude.{◌≡◌, ℕ, length};
 ghost use Rattle.rank_order.specs.Decimal.{Sign, has_minus, is_digit, is_exponent_letter, fraction_digits};
-ghost use Rattle.rank_order.specs.Reading.{front_digits, past_digits, fraction_in, past_fraction, are_digits, exponent_with, signed_in, exponent_in, decimal_of};
-ghost use Rattle.rank_order.specs.Parts.{IsExponentText, IsDecimalText};
+ghost use Rattle.rank_order.specs.DecimalTexts.{front_digits, past_digits, fraction_in, past_fraction, are_digits, exponent_with, signed_in, exponent_in, decimal_of};
+ghost use Rattle.rank_order.specs.Inside.Parts.{IsExponentText, IsDecimalText};
 
 /// The digits of an exponent, and whether a minus stands before them. Without an exponent there are
 /// no digits.

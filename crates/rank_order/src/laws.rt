@@ -18,6 +18,17 @@ pub fn ranking_lists_by_rank()
         → slice_index rows (rank_of confidences row) ≡ row }
 {}
 
+/// A ranking has as many rows as there are confidences, each of them below that number, and none twice.
+pub fn ranking_has_each_row_once()
+    ensures count { (confidences rows : List ℕ) → IsRanking confidences rows →
+        length rows ≡ length confidences }
+    ensures within { (confidences rows : List ℕ) (place : ℕ) → IsRanking confidences rows →
+        place < length rows → slice_index rows place < length confidences }
+    ensures once { (confidences rows : List ℕ) (one other : ℕ) → IsRanking confidences rows →
+        one < length rows → other < length rows →
+        slice_index rows one ≡ slice_index rows other → one ≡ other }
+{}
+
 /// The ranks of rows 0, 1, 2: the greater confidence first, and at equal confidence the earlier row.
 pub fn ranks_of_three_rows()
     ensures in_order { map (rank_of (9 ∷ 8 ∷ 8 ∷ [])) (0 ∷ 1 ∷ 2 ∷ []) ≡ 0 ∷ 1 ∷ 2 ∷ [] }

@@ -1,8 +1,8 @@
-// Whole numbers of any length, by their significant digits.
+//! Whole numbers of any length, by their significant digits.
 
 ghost use Rattle.std.specs.Prelude.{◌≡◌, ◌≤◌, ◌<◌, ◌+◌, ◌-◌, ◌*◌, ◌^◌, ℕ, true, length, SomeIff, IfSome, IfNone};
-ghost use Rattle.rank_order.specs.Decimal.{AreDigits, is_digit, number_of};
-ghost use Rattle.rank_order.specs.Scale.{IsScaled, IsTooFine, IsShort, value_of};
+ghost use Rattle.rank_order.specs.Decimal.{AreDigits, is_digit, digits_value};
+ghost use Rattle.rank_order.specs.Inside.Scale.{IsScaled, IsTooFine, IsShort, value_of};
 
 /// As many units as a confidence may have.
 pub const MOST_UNITS: u128 = 1_000_000_000_000_000_000_000_000_000_000_000_000;
@@ -69,10 +69,10 @@ pub fn with_digits(number: Number, digits: &[u8]) -> Option<Number>
     requires short { IsShort number }
     requires digits { AreDigits digits.now }
     requires zeros { number.zeros + length digits.now < 2 ^ 64 }
-    ensures value { IfSome result (λ n. value_of n ≡ value_of number * 10 ^ length digits.now + number_of digits.now) }
+    ensures value { IfSome result (λ n. value_of n ≡ value_of number * 10 ^ length digits.now + digits_value digits.now) }
     ensures short { IfSome result IsShort }
     ensures zeros { IfSome result (λ n. n.zeros ≤ number.zeros + length digits.now) }
-    ensures fine { IfNone result (IsTooFine (value_of number * 10 ^ length digits.now + number_of digits.now)) }
+    ensures fine { IfNone result (IsTooFine (value_of number * 10 ^ length digits.now + digits_value digits.now)) }
 {
     let mut whole = number;
     for digit in digits {
@@ -104,7 +104,7 @@ pub fn scaled(number: Number, up: u128, down: u128) -> Option<u128>
 /// The number that digits stand for, where it is below 10^20.
 pub fn small_number(digits: &[u8]) -> Option<u128>
     requires { AreDigits digits.now }
-    ensures { SomeIff result (number_of digits.now < 10 ^ 20) (number_of digits.now) }
+    ensures { SomeIff result (digits_value digits.now < 10 ^ 20) (digits_value digits.now) }
 {
     let mut number = 0u128;
     for digit in digits {

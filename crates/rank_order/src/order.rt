@@ -1,4 +1,4 @@
-// The order of rows by confidence.
+//! The order of rows by confidence.
 
 ghost use Rattle.std.specs.Prelude.{◌≡◌, ◌↔◌, ◌<◌, ◌^◌, length, map, IfOk};
 ghost use Rattle.std.specs.List.{range_with_len};

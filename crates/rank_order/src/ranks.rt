@@ -1,3 +1,5 @@
+//! Row numbers in an order.
+
 ghost use Rattle.std.specs.Prelude.{◌≡◌};
 
 use std::marker::Model;

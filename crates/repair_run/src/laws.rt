@@ -1,7 +1,7 @@
 //! Laws on the forms of texts, and on what documents and tables say.
 ghost use Rattle.std.specs.Prelude.{◌≡◌, ◌↔◌, ℕ, List, [], ◌∷◌, Contains, Some, codes, map};
 ghost use Rattle.io_edge.specs.Outside.{Files};
-ghost use Rattle.text_names.specs.NameKeys.{AreDistinct};
+ghost use Rattle.text_names.specs.Names.{AreDistinct};
 ghost use Rattle.el_logic.specs.declared.types.Axiom.TheVariants.{SubClass, Disjoint};
 ghost use Rattle.el_logic.specs.declared.types.Expr.TheVariants.{Name};
 ghost use Rattle.repair_run.specs.declared.first_form.DocumentText.{DocumentText};
@@ -14,6 +14,7 @@ ghost use Rattle.repair_run.specs.Words.{FileNames};
 ghost use Rattle.repair_run.specs.Worked.{worked_left, worked_right, worked_table};
 
 use rank_order::ranking_lists_by_rank;
+use text_names::names_stay_distinct;
 
 /// A text is read as a document exactly where it is spelled as that document; so it is spelled as one at most.
 pub fn documents_are_read_as_spelled()
@@ -30,7 +31,9 @@ pub fn names_are_numbered_as_they_occur()
     ensures each { (occurring : List (List ℕ)) (name : List ℕ) → Contains (with_names [] occurring) name ↔ Contains occurring name }
     ensures once { (occurring : List (List ℕ)) → AreDistinct (with_names [] occurring) }
     ensures in_order { with_names [] (codes "b" ∷ codes "a" ∷ codes "b" ∷ codes "c" ∷ []) ≡ codes "b" ∷ codes "a" ∷ codes "c" ∷ [] }
-{}
+{
+    names_stay_distinct();
+}
 
 /// What two small documents and three rows say: an exact match equates two classes, a broad match puts the subject below
 /// the object, and a row about a name that is no class says nothing.

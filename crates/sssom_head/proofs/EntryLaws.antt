@@ -7,8 +7,8 @@ use Rattle.std.proofs.lemmas.Bool.Decides.{nat_tests}
 use Rattle.std.proofs.lemmas.Str.{IsUtf8-from_is_utf8, is_utf8-from_IsUtf8, IsUtf8-take, IsUtf8-drop, IsCharBoundary-before_ascii, IsCharBoundary-after_ascii}
 use Rattle.sssom_head.specs.Lines.{begins_with_hash}
 use Rattle.sssom_head.specs.Contents.{behind_spaces, indentation}
-use Rattle.sssom_head.specs.Entries.{is_quote, is_quoted_byte, is_key_byte, is_mark, is_value_byte, Word, word_text, word_bytes, IsKey, BeginsValue, IsValue, Comment, comment_text, IsComment, Entry, entry_text, IsEntry}
-use Rattle.sssom_head.specs.Reading.{Pair, split_some, quote_at, split_quote, key_in, value_in, behind_some_spaces, behind_colon, ends_entry, entry_with_value, entry_behind_colon, entry_with_key, entry_in, entry_of}
+use Rattle.sssom_head.specs.Entries.{is_quote, is_quoted_byte, is_key_byte, is_indicator, is_value_byte, Word, word_text, word_bytes, IsKey, BeginsValue, IsValue, Comment, comment_text, IsComment, Entry, entry_text, IsEntry}
+use Rattle.sssom_head.specs.HeaderSteps.{Pair, split_some, quote_at, split_quote, key_in, value_in, behind_some_spaces, behind_colon, ends_entry, entry_with_value, entry_behind_colon, entry_with_key, entry_in, entry_of}
 
 -- a text in UTF-8 may be cut round an ASCII byte
 get_mid : (xs ys : List ℕ) (b : ℕ) → get_or (xs ++ b ∷ ys) (length xs) 0 ≡ b
@@ -263,9 +263,9 @@ record ValueRead (text : List ℕ) (parts : Pair) : Type 0 where
   own : parts.0 ≡ word_bytes word
   whole : text ≡ word_text word ++ parts.1
 
-begins_value : (b : ℕ) (bs own rest : List ℕ) → b ∷ bs ≡ own ++ rest → 1 ≤ length own → is_mark b ≡ false → BeginsValue own
+begins_value : (b : ℕ) (bs own rest : List ℕ) → b ∷ bs ≡ own ++ rest → 1 ≤ length own → is_indicator b ≡ false → BeginsValue own
 begins_value b bs [] rest e some h = absurd (omega arith)
-begins_value b bs (c ∷ cs) rest e some h = let same : b ≡ c = cc in subst (λ (k : ℕ). is_mark k ≡ false) same h
+begins_value b bs (c ∷ cs) rest e some h = let same : b ≡ c = cc in subst (λ (k : ℕ). is_indicator k ≡ false) same h
 
 value_read : (text : List ℕ) (parts : Pair) → value_in text ≡ Some parts → ValueRead text parts
 value_read [] parts h = absurd cc
@@ -274,19 +274,19 @@ value_read (b ∷ bs) parts h = first (is_quote b) refl h
     plain : Option Pair
     plain = split_some (prefix_len is_value_byte (b ∷ bs)) (b ∷ bs)
 
-    second : (d : Bool) → is_mark b ≡ d → cond d None plain ≡ Some parts → ValueRead (b ∷ bs) parts
+    second : (d : Bool) → is_indicator b ≡ d → cond d None plain ≡ Some parts → ValueRead (b ∷ bs) parts
     second true e h = absurd cc
     second false e h =
         let split = some_split is_value_byte (b ∷ bs) parts h in
         record { word = Word.plain parts.0; form = (begins_value b bs parts.0 parts.1 split.whole split.some e, split.all); own = refl; whole = split.whole }
 
-    first : (d : Bool) → is_quote b ≡ d → cond d (split_quote bs (quote_at b 0 bs)) (cond (is_mark b) None plain) ≡ Some parts → ValueRead (b ∷ bs) parts
+    first : (d : Bool) → is_quote b ≡ d → cond d (split_quote bs (quote_at b 0 bs)) (cond (is_indicator b) None plain) ≡ Some parts → ValueRead (b ∷ bs) parts
     first true e h =
         let split = quote_split b bs parts h in
         record { word = Word.quoted b parts.0; form = (e, split.all); own = refl; whole = ap (λ (l : List ℕ). b ∷ l) (split.whole ∙ sym (append_assoc parts.0 (b ∷ []) parts.1)) }
-    first false e h = second (is_mark b) refl h
+    first false e h = second (is_indicator b) refl h
 
-value_no_quote : (b : ℕ) → is_mark b ≡ false → is_quote b ≡ false
+value_no_quote : (b : ℕ) → is_indicator b ≡ false → is_quote b ≡ false
 value_no_quote b e = grind (arith, nat_tests)
 
 value_again : (word : Word) (rest : List ℕ) → IsValue word → BeginsWithout is_value_byte rest → value_in (word_text word ++ rest) ≡ Some (word_bytes word, rest)
@@ -294,12 +294,12 @@ value_again (Word.plain []) rest form h = absurd form.0
 value_again (Word.plain (b ∷ bs)) rest form h =
     let text = b ∷ bs ++ rest in
     let plain = split_some (prefix_len is_value_byte text) text in
-    ap (λ (d : Bool). cond d (split_quote (bs ++ rest) (quote_at b 0 (bs ++ rest))) (cond (is_mark b) None plain)) (value_no_quote b form.0)
+    ap (λ (d : Bool). cond d (split_quote (bs ++ rest) (quote_at b 0 (bs ++ rest))) (cond (is_indicator b) None plain)) (value_no_quote b form.0)
     ∙ ap (λ (d : Bool). cond d None plain) form.0
     ∙ some_again is_value_byte (b ∷ bs) rest form.1 (omega arith) h
 value_again (Word.quoted quote own) rest form h =
     let text = (own ++ quote ∷ []) ++ rest in
-    ap (λ (d : Bool). cond d (split_quote text (quote_at quote 0 text)) (cond (is_mark quote) None (split_some (prefix_len is_value_byte (quote ∷ text)) (quote ∷ text)))) form.0
+    ap (λ (d : Bool). cond d (split_quote text (quote_at quote 0 text)) (cond (is_indicator quote) None (split_some (prefix_len is_value_byte (quote ∷ text)) (quote ∷ text)))) form.0
     ∙ ap (λ (l : List ℕ). split_quote l (quote_at quote 0 l)) (append_assoc own (quote ∷ []) rest)
     ∙ quote_again quote own rest form.1
 

@@ -6,16 +6,16 @@ use Rattle.std.proofs.lemmas.Bool.Decides.{nat_tests}
 use Rattle.text_names.specs.Prefixes.{Prefixes, iri_of, is_declared, with_prefix, HasOtherIri}
 use Rattle.sssom_head.specs.declared.head.HeadFault.{HeadFault}
 use Rattle.sssom_head.specs.declared.head.HeadFault.TheVariants.{MapForm, Again, OutOfMemory}
-use Rattle.sssom_head.specs.declared.place.Place.{Place}
-use Rattle.sssom_head.specs.declared.place.Place.TheVariants.{Before, Inside, Past}
+use Rattle.sssom_head.specs.declared.place.MapPlace.{MapPlace}
+use Rattle.sssom_head.specs.declared.place.MapPlace.TheVariants.{Before, Inside, Past}
 use Rattle.sssom_head.specs.Contents.{indentation, is_empty_list, is_blank, map_text, begins_map, is_empty_map}
 use Rattle.sssom_head.specs.Entries.{IsEntry}
 use Rattle.sssom_head.specs.BuiltIn.{built_in, with_built_in}
 use Rattle.sssom_head.specs.declared.head.Head.{Head}
 use Rattle.sssom_head.specs.Lines.{contents_of}
-use Rattle.sssom_head.specs.Heads.{read, IsReadAs, IsHeader}
+use Rattle.sssom_head.specs.Heads.{read, IsHeadRead, IsHeader}
 use Rattle.sssom_head.specs.Headers.{BeginNoMap, StaysInside, entry_lines, first_indentation, AreAlike, AreEntries, AreConsistent, map_of, IsInside, HasEmptyMap, HasEndedMap, IsPlace, IsEntryLine, IsUnlike, IsMapFault, IsAgainAt, IsFault, IsFirstFault, IsReading}
-use Rattle.sssom_head.specs.Reading.{Pair, State, Answer, at_place, entry_of, begun_by, has_indentation, is_other, with_entry, inside_by, other_line, map_line, by_line, step, run, start}
+use Rattle.sssom_head.specs.HeaderSteps.{Pair, State, Answer, at_place, entry_of, begun_by, has_indentation, is_other, with_entry, inside_by, other_line, map_line, by_line, step, run, start}
 use Rattle.std.specs.Cmp.Lexicographic.{bytes_decides}
 use Rattle.sssom_head.proofs.EntryLaws.{entry_is, entry_of_is}
 use Rattle.sssom_head.proofs.PrefixLaws.{or_iri, iri_append, with_all_iri, with_all_push, other_is, is_other_value, same_value, no_other_value}
@@ -79,7 +79,7 @@ record Leads (lines : List (List ℕ)) (state : State) : Type 0 where
   sound : IsPlace lines state.place pairs
   entries_are : state.prefixes ≡ map_of pairs
 
-abbrev StepFound : ℕ → List (List ℕ) → Place → Prefixes → List ℕ → Answer → Type 0
+abbrev StepFound : ℕ → List (List ℕ) → MapPlace → Prefixes → List ℕ → Answer → Type 0
 StepFound n front place pairs content (Ok state) = Leads (front ++ content ∷ []) state
 StepFound n front place pairs content (Err fault) = IsFault n place pairs content fault
 
@@ -214,7 +214,7 @@ past_push front pairs content none = ⊎_elim
       no_other = (h.no_other.0, all_push (λ c. map_text c ≡ None) h.after content h.no_other.1 none);
     }))
 
-other_found : (n : ℕ) (front : List (List ℕ)) (place : Place) (pairs : Prefixes) (content : List ℕ) → map_text content ≡ None → IsPlace front place pairs →
+other_found : (n : ℕ) (front : List (List ℕ)) (place : MapPlace) (pairs : Prefixes) (content : List ℕ) → map_text content ≡ None → IsPlace front place pairs →
     StepFound n front place pairs content (other_line n place (map_of pairs) content)
 other_found n front Before pairs content none h = record { pairs = pairs; sound = (all_push (λ c. map_text c ≡ None) front content h.0 none, h.1); entries_are = refl }
 other_found n front Past pairs content none h = record { pairs = pairs; sound = past_push front pairs content none h; entries_are = refl }
@@ -260,13 +260,13 @@ begun_found n front pairs content text e h = first (is_empty_list text) refl
 begins_is : (content text : List ℕ) → map_text content ≡ Some text → begins_map content ≡ true
 begins_is content text e = ap is_some e
 
-map_found : (n : ℕ) (front : List (List ℕ)) (place : Place) (pairs : Prefixes) (content text : List ℕ) → map_text content ≡ Some text → IsPlace front place pairs →
+map_found : (n : ℕ) (front : List (List ℕ)) (place : MapPlace) (pairs : Prefixes) (content text : List ℕ) → map_text content ≡ Some text → IsPlace front place pairs →
     StepFound n front place pairs content (map_line n place (map_of pairs) content text)
 map_found n front Before pairs content text e h = begun_found n front pairs content text e h
 map_found n front Past pairs content text e h = (refl, begins_is content text e)
 map_found n front (Inside map entries) pairs content text e h = (refl, inl (begins_is content text e))
 
-step_found : (n : ℕ) (front : List (List ℕ)) (place : Place) (pairs : Prefixes) (content : List ℕ) → IsPlace front place pairs →
+step_found : (n : ℕ) (front : List (List ℕ)) (place : MapPlace) (pairs : Prefixes) (content : List ℕ) → IsPlace front place pairs →
     StepFound n front place pairs content (step n (record { place = place; prefixes = map_of pairs }) content)
 step_found n front place pairs content h = by (map_text content) refl
   where
@@ -275,7 +275,7 @@ step_found n front place pairs content h = by (map_text content) refl
     by (Some text) e = map_found n front place pairs content text e h
 
 -- from any place on
-run_found : (n : ℕ) (front : List (List ℕ)) (place : Place) (pairs : Prefixes) (rest : List (List ℕ)) → n ≡ 1 + length front → IsPlace front place pairs →
+run_found : (n : ℕ) (front : List (List ℕ)) (place : MapPlace) (pairs : Prefixes) (rest : List (List ℕ)) → n ≡ 1 + length front → IsPlace front place pairs →
     IsReading (front ++ rest) (run n (at_place place (map_of pairs)) rest)
 run_found n front place pairs [] count h = record { pairs = pairs; sound = subst (λ (l : List (List ℕ)). IsPlace l place pairs) (sym (append-nil front)) h; entries_are = refl }
 run_found n front place pairs (content ∷ contents) count h =
@@ -283,7 +283,7 @@ run_found n front place pairs (content ∷ contents) count h =
     (λ place pairs. run_found (n + 1) (front ++ content ∷ []) place pairs contents (omega (arith, count, length-append front (content ∷ []))))
   where
     by : (answer : Answer) → StepFound n front place pairs content answer →
-        ((place : Place) (pairs : Prefixes) → IsPlace (front ++ content ∷ []) place pairs → IsReading ((front ++ content ∷ []) ++ contents) (run (n + 1) (at_place place (map_of pairs)) contents)) →
+        ((place : MapPlace) (pairs : Prefixes) → IsPlace (front ++ content ∷ []) place pairs → IsReading ((front ++ content ∷ []) ++ contents) (run (n + 1) (at_place place (map_of pairs)) contents)) →
         IsReading (front ++ content ∷ contents) (run (n + 1) answer contents)
     by (Err fault) found rest = ended contents
       where
@@ -314,10 +314,10 @@ run_append n (Ok state) (x ∷ xs) ys =
     let same : n + 1 + length xs ≡ n + length (x ∷ xs) = omega arith in
     run_append (n + 1) (step n state x) xs ys ∙ ap (λ (k : ℕ). run k (run (n + 1) (step n state x) xs) ys) same
 
-step_none : (n : ℕ) (place : Place) (prefixes : Prefixes) (content : List ℕ) → map_text content ≡ None → step n (record { place = place; prefixes = prefixes }) content ≡ other_line n place prefixes content
+step_none : (n : ℕ) (place : MapPlace) (prefixes : Prefixes) (content : List ℕ) → map_text content ≡ None → step n (record { place = place; prefixes = prefixes }) content ≡ other_line n place prefixes content
 step_none n place prefixes content e = ap (by_line n place prefixes content) e
 
-step_some : (n : ℕ) (place : Place) (prefixes : Prefixes) (content text : List ℕ) → map_text content ≡ Some text → step n (record { place = place; prefixes = prefixes }) content ≡ map_line n place prefixes content text
+step_some : (n : ℕ) (place : MapPlace) (prefixes : Prefixes) (content text : List ℕ) → map_text content ≡ Some text → step n (record { place = place; prefixes = prefixes }) content ≡ map_line n place prefixes content text
 step_some n place prefixes content text e = ap (by_line n place prefixes content) e
 
 run_before : (n : ℕ) (prefixes : Prefixes) (lines : List (List ℕ)) → BeginNoMap lines → run n (at_place Before prefixes) lines ≡ at_place Before prefixes
@@ -447,12 +447,12 @@ ended_read lines pairs h =
     ∙ ap (λ (d : Bool). cond d (at_place Past (map_of pairs)) (cond (has_indentation h.entries (indentation h.last)) (with_entry n h.map (indentation h.last) (map_of pairs) (entry_of h.last)) (Err (MapForm n)))) (less_is (indentation h.last) h.map h.shallow))
     ∙ run_past (n + 1) (map_of pairs) h.after h.no_other.1
 
-place_read : (lines : List (List ℕ)) (place : Place) (pairs : Prefixes) → IsPlace lines place pairs → run 1 start lines ≡ at_place place (map_of pairs)
+place_read : (lines : List (List ℕ)) (place : MapPlace) (pairs : Prefixes) → IsPlace lines place pairs → run 1 start lines ≡ at_place place (map_of pairs)
 place_read lines Before pairs h = run_before 1 [] lines h.0 ∙ ap (λ (ps : Prefixes). at_place Before (map_of ps)) (sym h.1)
 place_read lines Past pairs h = ⊎_elim (empty_read lines pairs) (ended_read lines pairs) h
 place_read lines (Inside map entries) pairs h = inside_read lines map entries pairs h
 
-map_some : (n : ℕ) (place : Place) (prefixes : Prefixes) (content : List ℕ) → begins_map content ≡ true →
+map_some : (n : ℕ) (place : MapPlace) (prefixes : Prefixes) (content : List ℕ) → begins_map content ≡ true →
     ((text : List ℕ) → map_text content ≡ Some text → map_line n place prefixes content text ≡ Err (MapForm n)) → step n (record { place = place; prefixes = prefixes }) content ≡ Err (MapForm n)
 map_some n place prefixes content e next = by (map_text content) refl e
   where
@@ -512,7 +512,7 @@ bad_entry n map entries prefixes content h = ⊎_elim
     either true = refl
     either false = refl
 
-map_fault_read : (n : ℕ) (place : Place) (pairs : Prefixes) (content : List ℕ) → IsMapFault place content → step n (record { place = place; prefixes = map_of pairs }) content ≡ Err (MapForm n)
+map_fault_read : (n : ℕ) (place : MapPlace) (pairs : Prefixes) (content : List ℕ) → IsMapFault place content → step n (record { place = place; prefixes = map_of pairs }) content ≡ Err (MapForm n)
 map_fault_read n Before pairs content h = malformed n (map_of pairs) content h
 map_fault_read n Past pairs content h = map_some n Past (map_of pairs) content h (λ text e. refl)
 map_fault_read n (Inside map entries) pairs content h = ⊎_elim
@@ -520,7 +520,7 @@ map_fault_read n (Inside map entries) pairs content h = ⊎_elim
     (λ bad. at_entry n map entries (map_of pairs) content bad.0 ∙ bad_entry n map entries (map_of pairs) content bad.1)
     h
 
-again_read : (n : ℕ) (place : Place) (pairs : Prefixes) (content : List ℕ) → IsAgainAt place pairs content → step n (record { place = place; prefixes = map_of pairs }) content ≡ Err (Again n)
+again_read : (n : ℕ) (place : MapPlace) (pairs : Prefixes) (content : List ℕ) → IsAgainAt place pairs content → step n (record { place = place; prefixes = map_of pairs }) content ≡ Err (Again n)
 again_read n Before pairs content h = absurd h
 again_read n Past pairs content h = absurd h
 again_read n (Inside map entries) pairs content h =
@@ -530,7 +530,7 @@ again_read n (Inside map entries) pairs content h =
     ∙ ap (λ (d : Bool). cond d (Err (Again n)) (at_place (Inside map (Some (indentation content))) (with_prefix (map_of pairs) h.key h.value)))
     (ap (λ (o : Option (List ℕ)). is_other o h.value) (with_all_iri [] pairs h.key) ∙ is_other_value (iri_of pairs h.key) h.value h.other)
 
-fault_read : (n : ℕ) (place : Place) (pairs : Prefixes) (content : List ℕ) (fault : HeadFault) → IsFault n place pairs content fault → step n (record { place = place; prefixes = map_of pairs }) content ≡ Err fault
+fault_read : (n : ℕ) (place : MapPlace) (pairs : Prefixes) (content : List ℕ) (fault : HeadFault) → IsFault n place pairs content fault → step n (record { place = place; prefixes = map_of pairs }) content ≡ Err fault
 fault_read n place pairs content (MapForm line) h = map_fault_read n place pairs content h.1 ∙ ap (λ (k : ℕ). Err (MapForm k)) (sym h.0)
 fault_read n place pairs content (Again line) h = again_read n place pairs content h.1 ∙ ap (λ (k : ℕ). Err (Again k)) (sym h.0)
 fault_read n place pairs content OutOfMemory h = absurd h
@@ -553,7 +553,7 @@ is_read lines (Err fault) h =
 fault_says : (bytes : List ℕ) (fault : HeadFault) → read bytes ≡ Err fault → IsFirstFault (contents_of bytes) fault
 fault_says bytes fault e = subst (IsReading (contents_of bytes)) e (read_is (contents_of bytes))
 
-pub header_is : (bytes : List ℕ) (result : Result Head HeadFault) → IsReadAs bytes result → IsHeader bytes result
+pub header_is : (bytes : List ℕ) (result : Result Head HeadFault) → IsHeadRead bytes result → IsHeader bytes result
 header_is bytes (Ok head) h = record {
   place = h.map.place;
   entries = h.entries;

@@ -2,3 +2,4 @@ pub mod LineLaws
 pub mod EntryLaws
 pub mod PrefixLaws
 pub mod HeaderLaws
+pub mod TextLines

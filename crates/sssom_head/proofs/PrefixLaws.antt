@@ -4,7 +4,7 @@ use Rattle.std.specs.Prelude.{Option, Some, None, is_some, not, IsSomeAnd}
 use Rattle.std.specs.Cmp.Lexicographic.{bytes_decides}
 use Rattle.text_names.specs.Prefixes.{Prefixes, iri_of, with_prefix}
 use Rattle.sssom_head.specs.BuiltIn.{with_all}
-use Rattle.sssom_head.specs.Reading.{is_other}
+use Rattle.sssom_head.specs.HeaderSteps.{is_other}
 
 -- the first of two
 abbrev pub or_iri : Option (List ℕ) → Option (List ℕ) → Option (List ℕ)

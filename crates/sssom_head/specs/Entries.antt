@@ -16,8 +16,8 @@ abbrev pub is_key_byte : ℕ → Bool
 is_key_byte b = (nat_le 48 b && nat_le b 57) || (nat_le 65 b && nat_le b 90) || (nat_le 97 b && nat_le b 122) || b == 95 || b == 46 || b == 45
 
 -- [ ] { } , & * ! | > % @ # ' " and the backquote
-abbrev pub is_mark : ℕ → Bool
-is_mark b = b == 91 || b == 93 || b == 123 || b == 125 || b == 44 || b == 38 || b == 42 || b == 33 || b == 124 || b == 62 || b == 37 || b == 64 || b == 35 || b == 39 || b == 34 || b == 96
+abbrev pub is_indicator : ℕ → Bool
+is_indicator b = b == 91 || b == 93 || b == 123 || b == 125 || b == 44 || b == 38 || b == 42 || b == 33 || b == 124 || b == 62 || b == 37 || b == 64 || b == 35 || b == 39 || b == 34 || b == 96
 
 abbrev pub is_value_byte : ℕ → Bool
 is_value_byte b = not (b == 32)
@@ -45,7 +45,7 @@ IsKey (Word.quoted quote bytes) = IsQuoted quote bytes
 -- one byte or more, the first of which is no mark
 abbrev pub BeginsValue : List ℕ → Type 0
 BeginsValue [] = ⊥
-BeginsValue (b ∷ bs) = is_mark b ≡ false
+BeginsValue (b ∷ bs) = is_indicator b ≡ false
 
 abbrev pub IsValue : Word → Type 0
 IsValue (Word.plain bytes) = BeginsValue bytes × AllByRecursion (λ b. is_value_byte b ≡ true) bytes

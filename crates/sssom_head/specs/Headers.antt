@@ -5,12 +5,12 @@ use Rattle.std.specs.List.{AllByRecursion}
 use Rattle.text_names.specs.Prefixes.{Prefixes, iri_of, HasOtherIri}
 use Rattle.sssom_head.specs.declared.head.HeadFault.{HeadFault}
 use Rattle.sssom_head.specs.declared.head.HeadFault.TheVariants.{MapForm, Again, OutOfMemory}
-use Rattle.sssom_head.specs.declared.place.Place.{Place}
-use Rattle.sssom_head.specs.declared.place.Place.TheVariants.{Before, Inside, Past}
+use Rattle.sssom_head.specs.declared.place.MapPlace.{MapPlace}
+use Rattle.sssom_head.specs.declared.place.MapPlace.TheVariants.{Before, Inside, Past}
 use Rattle.sssom_head.specs.Contents.{indentation, is_empty_list, is_blank, map_text, begins_map, is_empty_map}
 use Rattle.sssom_head.specs.Entries.{IsEntry}
 use Rattle.sssom_head.specs.BuiltIn.{with_all}
-use Rattle.sssom_head.specs.Reading.{Answer}
+use Rattle.sssom_head.specs.HeaderSteps.{Answer}
 
 abbrev pub BeginNoMap : List (List ℕ) → Type 0
 BeginNoMap lines = AllByRecursion (λ content. map_text content ≡ None) lines
@@ -90,7 +90,7 @@ pub record HasEndedMap (lines : List (List ℕ)) (pairs : Prefixes) : Type 0 whe
   pub no_other : BeginNoMap (last ∷ after)
 
 -- no line is at fault, the map has these keys and values, and this is where the lines lead
-abbrev pub IsPlace : List (List ℕ) → Place → Prefixes → Type 0
+abbrev pub IsPlace : List (List ℕ) → MapPlace → Prefixes → Type 0
 IsPlace lines Before pairs = BeginNoMap lines × (pairs ≡ [])
 IsPlace lines (Inside map entries) pairs = IsInside lines map entries pairs
 IsPlace lines Past pairs = HasEmptyMap lines pairs ⊎ HasEndedMap lines pairs
@@ -108,7 +108,7 @@ IsUnlike (Some n) content = n ≢ indentation content
 
 -- no line of a map: a first line with other text behind its colon, a second first line, an entry of another
 -- indentation or of another form
-abbrev pub IsMapFault : Place → List ℕ → Type 0
+abbrev pub IsMapFault : MapPlace → List ℕ → Type 0
 IsMapFault Before content = IsSomeAnd (map_text content) (λ text. (is_empty_list text ≡ false) × (is_empty_map text ≡ false))
 IsMapFault Past content = begins_map content ≡ true
 IsMapFault (Inside map entries) content =
@@ -124,12 +124,12 @@ pub record IsAgain (map : ℕ) (entries : Option ℕ) (pairs : Prefixes) (conten
   pub form : IsEntry content key value
   pub other : HasOtherIri pairs key value
 
-abbrev pub IsAgainAt : Place → Prefixes → List ℕ → Type 0
+abbrev pub IsAgainAt : MapPlace → Prefixes → List ℕ → Type 0
 IsAgainAt Before pairs content = ⊥
 IsAgainAt Past pairs content = ⊥
 IsAgainAt (Inside map entries) pairs content = IsAgain map entries pairs content
 
-abbrev pub IsFault : ℕ → Place → Prefixes → List ℕ → HeadFault → Type 0
+abbrev pub IsFault : ℕ → MapPlace → Prefixes → List ℕ → HeadFault → Type 0
 IsFault line place pairs content (MapForm n) = (n ≡ line) × IsMapFault place content
 IsFault line place pairs content (Again n) = (n ≡ line) × IsAgainAt place pairs content
 IsFault line place pairs content OutOfMemory = ⊥
@@ -140,13 +140,13 @@ pub record IsFirstFault (lines : List (List ℕ)) (fault : HeadFault) : Type 0 w
   pub content : List ℕ
   pub after : List (List ℕ)
   pub whole : lines ≡ before ++ content ∷ after
-  pub place : Place
+  pub place : MapPlace
   pub pairs : Prefixes
   pub sound : IsPlace before place pairs
   pub at_fault : IsFault (1 + length before) place pairs content fault
 
 -- no line is at fault, and the map has these entries
-pub record IsSound (lines : List (List ℕ)) (place : Place) (entries : Prefixes) : Type 0 where
+pub record IsSound (lines : List (List ℕ)) (place : MapPlace) (entries : Prefixes) : Type 0 where
   pub pairs : Prefixes
   pub sound : IsPlace lines place pairs
   pub entries_are : entries ≡ map_of pairs

@@ -1,7 +1,7 @@
 pub mod Lines
 pub mod Contents
 pub mod Entries
-pub mod Reading
+pub mod HeaderSteps
 pub mod BuiltIn
 pub mod Headers
 pub mod Heads

@@ -1,5 +1,6 @@
 -- The header lines of a table, and their contents.
-use Rattle.std.specs.Prelude.{ℕ, ◌+◌, ◌-◌, ◌==◌, Bool, false, ◌&&◌, ◌||◌, if◌then◌else◌, List, [], ◌∷◌, length, take, drop, map, bytes_eq}
+use Rattle.std.specs.Prelude.{◌≡◌, ◌≤◌, ◌⊎◌, ℕ, ◌+◌, ◌-◌, ◌==◌, Bool, true, false, ◌&&◌, ◌||◌, if◌then◌else◌, List, [], ◌∷◌, ◌++◌, length, take, drop, map, bytes_eq, ⊤}
+use Rattle.std.specs.List.{AllByRecursion}
 
 -- a byte more before the first line
 abbrev pub onto_line : ℕ → List (List ℕ) → List (List ℕ)
@@ -61,3 +62,30 @@ content_of line = trimmed (less_line_end (drop 1 line))
 -- the contents of the header lines
 abbrev pub contents_of : List ℕ → List (List ℕ)
 contents_of text = map content_of (header_lines text)
+
+abbrev pub HasNoLineFeed : List ℕ → Type 0
+HasNoLineFeed bytes = AllByRecursion (λ b. (b == 10) ≡ false) bytes
+
+-- bytes without a line feed, and then one
+pub record IsWholeLine (line : List ℕ) : Type 0 where
+  pub own : List ℕ
+  pub no_feed : HasNoLineFeed own
+  pub spelled : line ≡ own ++ 10 ∷ []
+
+-- the last line has no line feed, but some bytes
+pub record IsOpenLine (line : List ℕ) (later : List (List ℕ)) : Type 0 where
+  pub last : later ≡ []
+  pub some : 1 ≤ length line
+  pub no_feed : HasNoLineFeed line
+
+-- each line ends with its only line feed; the last may have none
+abbrev pub AreLines : List (List ℕ) → Type 0
+AreLines [] = ⊤
+AreLines (line ∷ lines) = (IsWholeLine line ⊎ IsOpenLine line lines) × AreLines lines
+
+-- the text is this front and then only spaces and tabs, and the front ends with neither
+pub record IsTrimmed (text front : List ℕ) : Type 0 where
+  pub blank : List ℕ
+  pub whole : text ≡ front ++ blank
+  pub spaces : AllByRecursion (λ b. is_space_or_tab b ≡ true) blank
+  pub last : (before : List ℕ) (b : ℕ) → front ≡ before ++ b ∷ [] → is_space_or_tab b ≡ false

@@ -1,4 +1,4 @@
-// What the content of a header line is.
+//! What the content of a header line is.
 
 ghost use Rattle.std.specs.Prelude.{◌≡◌, ◌≤◌, length};
 ghost use Rattle.std.specs.Option.{option_map};

@@ -1,11 +1,11 @@
-// Entries of a map of prefixes.
+//! Entries of a map of prefixes.
 
 ghost use Rattle.std.specs.Prelude.{◌≡◌, ◌≤◌, ◌<◌, ◌+◌, length, IfSome};
 ghost use Rattle.std.specs.List.{prefix_len};
 ghost use Rattle.std.specs.Option.{option_map};
 ghost use Rattle.std.specs.Str.{is_utf8};
-ghost use Rattle.sssom_head.specs.Entries.{is_quote, is_quoted_byte, is_key_byte, is_mark, is_value_byte};
-ghost use Rattle.sssom_head.specs.Reading.{split_some, quote_at, split_quote, key_in, value_in, behind_some_spaces, behind_colon, ends_entry, entry_in, entry_of};
+ghost use Rattle.sssom_head.specs.Entries.{is_quote, is_quoted_byte, is_key_byte, is_indicator, is_value_byte};
+ghost use Rattle.sssom_head.specs.HeaderSteps.{split_some, quote_at, split_quote, key_in, value_in, behind_some_spaces, behind_colon, ends_entry, entry_in, entry_of};
 
 use crate::content::behind_spaces;
 use crate::lines::begins_with_hash;
@@ -28,8 +28,8 @@ fn is_key_byte(byte: u8) -> bool
     matches!(byte, b'0'..=b'9' | b'A'..=b'Z' | b'a'..=b'z' | b'_' | b'.' | b'-')
 }
 
-fn is_mark(byte: u8) -> bool
-    ensures { result ≡ is_mark byte }
+fn is_indicator(byte: u8) -> bool
+    ensures { result ≡ is_indicator byte }
 {
     matches!(
         byte,
@@ -105,7 +105,8 @@ fn split_some(len: usize, text: &[u8]) -> Option<(&[u8], &[u8])>
 }
 
 fn split_quote(quote: u8, text: &[u8]) -> Option<(&[u8], &[u8])>
-    ensures { option_map (λ parts. (parts.0.now, parts.1.now)) result ≡ split_quote text.now (quote_at quote 0 text.now) }
+    ensures { option_map (λ parts. (parts.0.now, parts.1.now)) result ≡
+        split_quote text.now (quote_at quote 0 text.now) }
 {
     match quote_at(quote, text) {
         Some(at) => Some((&text[..at], &text[at + 1..])),
@@ -135,7 +136,7 @@ fn split_value(text: &[u8]) -> Option<(&[u8], &[u8])>
     if is_quote(*first) {
         return split_quote(*first, rest);
     }
-    if is_mark(*first) {
+    if is_indicator(*first) {
         return None;
     }
     split_some(value_len(text), text)

@@ -1,9 +1,11 @@
+//! The header of a table.
+
 ghost use Rattle.std.specs.Prelude.{◌≡◌, ◌≤◌, [], length, IfOk, OnOk};
 ghost use Rattle.text_names.specs.Prefixes.{with_prefix};
 ghost use Rattle.sssom_head.specs.BuiltIn.{with_built_in};
-ghost use Rattle.sssom_head.specs.Heads.{AreRead, IsReadAs, IsHeader};
+ghost use Rattle.sssom_head.specs.Heads.{AreRead, IsHeadRead, IsHeader};
 
-use crate::Place;
+use crate::MapPlace;
 use crate::lines::{content_of, split_header_line};
 use crate::reading::take_line;
 use std::alloc::{AllocError, Global};
@@ -14,8 +16,8 @@ use thiserror::Error;
 #[derive(Clone, Copy, Debug, PartialEq, Eq, Error)]
 pub enum HeadFault {
     /// The line has no form that its place in the map `curie_map` allows: a first line of the map
-    /// with other text behind its colon than `{}`, a second first line, or an entry that is indented
-    /// otherwise than the first, is not spelled as one or is not UTF-8.
+    /// with other text after its colon than `{}`, a second first line, or an entry that is indented
+    /// in another way than the first, is not spelled as one or is not UTF-8.
     #[error("line {line}: curie_map form")]
     MapForm { line: u64 },
     /// The line is an entry whose prefix has another IRI already.
@@ -25,9 +27,9 @@ pub enum HeadFault {
     OutOfMemory,
 }
 
-/// A header: how many bytes its lines have, and the prefixes that hold in the table. These are those
-/// of the header's map, and of the built-in ones `owl`, `rdf`, `rdfs`, `skos`, `semapv` and `sssom`
-/// those that the map has not.
+/// A header: how many bytes its lines have, and the prefixes that hold in the table. These are
+/// those of the header's map, and of the built-in ones `owl`, `rdf`, `rdfs`, `skos`, `semapv` and
+/// `sssom` those that the map does not have.
 #[derive(Debug, Drop)]
 pub struct Head {
     pub length: usize,
@@ -35,12 +37,12 @@ pub struct Head {
 }
 
 /// Reads the header at the start of a table in SSSOM/TSV, in this project's profile: the lines from
-/// the start on that begin with `#`, and in them the map `curie_map`. The bytes are those behind a
-/// byte order mark, if there is one; they may be any, and of the other lines and of the table
-/// nothing is asked. The fault is that of the first line that is at fault.
+/// the start on that begin with `#`, and in them the map `curie_map`. The bytes are those after a
+/// byte order mark, if there is one (`byte_words::without_mark`). They may be any: the other lines
+/// and the table are not read. The fault is that of the first line that is wrong.
 #[tactic(auto, using(crate::proofs::HeaderLaws::header_is))]
 pub fn read_head(alloc: Global, bytes: &[u8]) -> Result<Head, HeadFault>
-    ensures answer { IsReadAs bytes.now result }
+    ensures answer { IsHeadRead bytes.now result }
     ensures header { IsHeader bytes.now result }
     ensures within { IfOk result (λ head. head.length ≤ length bytes.now) }
 {
@@ -60,7 +62,7 @@ fn read_lines(bytes: &[u8], prefixes: &mut PrefixMap) -> Result<usize, HeadFault
     ensures answer { AreRead bytes.now result prefixes.new }
     ensures within { IfOk result (λ len. len ≤ length bytes.now) }
 {
-    let mut place = Place::Before;
+    let mut place = MapPlace::Before;
     let mut rest = bytes;
     let mut line = 0u64;
     while let Some((first, behind)) = split_header_line(rest) {

@@ -13,7 +13,7 @@ mod tests;
 
 pub use head::{Head, HeadFault, read_head};
 pub use laws::{
-    contents_are_told_apart, header_prefixes_win, one_entry_at_most,
-    what_is_read_is_what_the_lines_say,
+    contents_are_told_apart, header_lines_are_the_front, header_prefixes_win, lines_are_the_text,
+    one_entry_at_most, trimmed_text_ends_visibly, what_is_read_is_what_the_lines_say,
 };
-use place::Place;
+use place::MapPlace;

@@ -1,6 +1,6 @@
-// The header lines of a table, and their contents.
+//! The header lines of a table, and their contents.
 
-ghost use Rattle.std.specs.Prelude.{◌≡◌, ◌≤◌, ◌+◌, ◌∷◌, [], length, MatchOption};
+ghost use Rattle.std.specs.Prelude.{◌≡◌, ◌≤◌, ◌+◌, ◌∷◌, [], length, MatchOption, IfSome};
 ghost use Rattle.sssom_head.specs.Lines.{header_lines, first_line_end, begins_with_hash, less_line_end, is_space_or_tab, trimmed_end, trimmed, content_of};
 
 pub fn begins_with_hash(bytes: &[u8]) -> bool
@@ -26,11 +26,13 @@ fn line_end(text: &[u8]) -> usize
     end
 }
 
-/// The first line of a text, where it begins with `#`, and what stands behind it.
+/// The first line of a text, if it begins with `#`, and what follows it.
 #[tactic(auto, using(crate::proofs::LineLaws::first_header_line, crate::proofs::LineLaws::no_header_line, crate::proofs::LineLaws::some_text))]
 pub fn split_header_line(text: &[u8]) -> Option<(&[u8], &[u8])>
-    ensures lines { MatchOption result (header_lines text.now ≡ []) (λ parts. header_lines text.now ≡ parts.0.now ∷ header_lines parts.1.now) }
-    ensures whole { MatchOption result (length text.now ≡ length text.now) (λ parts. (length parts.0.now + length parts.1.now ≡ length text.now) × (1 ≤ length parts.0.now)) }
+    ensures lines { MatchOption result (header_lines text.now ≡ [])
+        (λ parts. header_lines text.now ≡ parts.0.now ∷ header_lines parts.1.now) }
+    ensures whole { IfSome result (λ parts.
+        (length parts.0.now + length parts.1.now ≡ length text.now) × (1 ≤ length parts.0.now)) }
 {
     if begins_with_hash(text) {
         Some(text.split_at(line_end(text)))

@@ -1,6 +1,8 @@
+//! Where in a header its lines lead.
+
 /// Where in a header the lines so far lead.
 #[derive(Clone, Copy, Debug, PartialEq, Eq)]
-pub enum Place {
+pub enum MapPlace {
     /// No map has begun.
     Before,
     /// In a map whose first line has the indentation `map`, behind entries with the indentation

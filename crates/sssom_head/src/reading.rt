@@ -1,24 +1,25 @@
-// Reading a header line by line.
+//! A header, line by line.
 
 ghost use Rattle.std.specs.Prelude.{◌≡◌};
 ghost use Rattle.sssom_head.specs.Contents.{indentation};
-ghost use Rattle.sssom_head.specs.Reading.{has_indentation, entry_of, with_entry, other_line, map_line, step};
+ghost use Rattle.sssom_head.specs.HeaderSteps.{has_indentation, entry_of, with_entry, other_line, map_line, step};
 ghost use Rattle.sssom_head.specs.Heads.{IsStep};
 ghost use Rattle.text_names.specs.Prefixes.{Prefixes};
 
 use crate::content::{indentation, is_blank, is_empty_map, map_text};
 use crate::entry::entry_of;
-use crate::{HeadFault, Place};
+use crate::{HeadFault, MapPlace};
 use text_names::{PrefixFault, PrefixMap};
 
 /// Takes in the line with this number and content.
 pub fn take_line(
     line: u64,
-    place: Place,
+    place: MapPlace,
     prefixes: &mut PrefixMap,
     content: &[u8],
-) -> Result<Place, HeadFault>
-    ensures { IsStep (step line (record { place = place; prefixes = prefixes.old }) content.now) result prefixes.new }
+) -> Result<MapPlace, HeadFault>
+    ensures { IsStep (step line (record { place = place; prefixes = prefixes.old }) content.now)
+        result prefixes.new }
 {
     match map_text(content) {
         Some(text) => map_line(line, place, content, text),
@@ -27,20 +28,21 @@ pub fn take_line(
 }
 
 // A line with which a map may begin, with this text behind the colon.
-fn map_line(line: u64, place: Place, content: &[u8], text: &[u8]) -> Result<Place, HeadFault>
-    ensures { (prefixes : Prefixes) → IsStep (map_line line place prefixes content.now text.now) result prefixes }
+fn map_line(line: u64, place: MapPlace, content: &[u8], text: &[u8]) -> Result<MapPlace, HeadFault>
+    ensures { (prefixes : Prefixes) →
+        IsStep (map_line line place prefixes content.now text.now) result prefixes }
 {
-    if place != Place::Before {
+    if place != MapPlace::Before {
         return Err(HeadFault::MapForm { line });
     }
     if text.is_empty() {
-        return Ok(Place::Inside {
+        return Ok(MapPlace::Inside {
             map: indentation(content),
             entries: None,
         });
     }
     if is_empty_map(text) {
-        Ok(Place::Past)
+        Ok(MapPlace::Past)
     } else {
         Err(HeadFault::MapForm { line })
     }
@@ -49,20 +51,20 @@ fn map_line(line: u64, place: Place, content: &[u8], text: &[u8]) -> Result<Plac
 // Any other line.
 fn other_line(
     line: u64,
-    place: Place,
+    place: MapPlace,
     prefixes: &mut PrefixMap,
     content: &[u8],
-) -> Result<Place, HeadFault>
+) -> Result<MapPlace, HeadFault>
     ensures { IsStep (other_line line place prefixes.old content.now) result prefixes.new }
 {
-    let Place::Inside { map, entries } = place else {
+    let MapPlace::Inside { map, entries } = place else {
         return Ok(place);
     };
     if is_blank(content) {
         return Ok(place);
     }
     if indentation(content) <= map {
-        return Ok(Place::Past);
+        return Ok(MapPlace::Past);
     }
     if has_indentation(entries, indentation(content)) {
         with_entry(line, map, prefixes, content)
@@ -86,14 +88,15 @@ fn with_entry(
     map: usize,
     prefixes: &mut PrefixMap,
     content: &[u8],
-) -> Result<Place, HeadFault>
-    ensures { IsStep (with_entry line map (indentation content.now) prefixes.old (entry_of content.now)) result prefixes.new }
+) -> Result<MapPlace, HeadFault>
+    ensures { let read = with_entry line map (indentation content.now) in
+        IsStep (read prefixes.old (entry_of content.now)) result prefixes.new }
 {
     let Some((key, value)) = entry_of(content) else {
         return Err(HeadFault::MapForm { line });
     };
     match prefixes.declare(key, value) {
-        Ok(()) => Ok(Place::Inside {
+        Ok(()) => Ok(MapPlace::Inside {
             map,
             entries: Some(indentation(content)),
         }),

@@ -1,3 +1,5 @@
 pub mod PlaceLaws
 pub mod PrefixLaws
 pub mod NameLaws
+pub mod StayLaws
+pub mod AscentLaws

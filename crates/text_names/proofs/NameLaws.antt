@@ -10,10 +10,10 @@ use Rattle.std.proofs.lemmas.Iterator.Adapters.{position_from-zero}
 use Rattle.std.proofs.lemmas.Bool.Decides.{nat_tests, eqb_tells}
 use Rattle.std.proofs.lemmas.List.Sums.{sum_by_push, sum_by-cons, prefix_len-le-length}
 use Rattle.std.proofs.lemmas.List.{append-nil, append_assoc, map_push}
-use Rattle.text_names.specs.Names.{number_of, number_or_next}
+use Rattle.text_names.specs.Names.{number_of, number_or_next, AreDistinct}
 use Rattle.indexmap.specs.IndexMap.{IndexMap, insert_entry}
 use Rattle.indexmap.proofs.CallerLemmas.{insert_entry-new}
-use Rattle.text_names.specs.NameKeys.{hash_of, count_with_hash, key_behind, keys_behind, AreDistinct, IsKept}
+use Rattle.text_names.specs.Inside.NameKeys.{hash_of, count_with_hash, key_behind, keys_behind, IsKept}
 
 -- the key of the names of hash h that has o such names before it
 abbrev pub is_key : ℕ → ℕ → ℕ × ℕ → Bool
@@ -244,7 +244,7 @@ position_push t k (m ∷ names) n = by (t m) refl (position_push t (k + 1) names
     by true e rest = rw e refl
     by false e rest = rw e (rest ∙ ap (λ (i : ℕ). option_or (position_from t (k + 1) names) (cond (t n) (Some i) None)) (let z : k + 1 + length names ≡ k + suc (length names) = omega arith in z))
 
-number_push : (names : List (List ℕ)) (n name : List ℕ) → number_of (names ++ n ∷ []) name ≡ option_or (number_of names name) (cond (bytes_eq name n) (Some (length names)) None)
+pub number_push : (names : List (List ℕ)) (n name : List ℕ) → number_of (names ++ n ∷ []) name ≡ option_or (number_of names name) (cond (bytes_eq name n) (Some (length names)) None)
 number_push names n name =
     position_from-zero (bytes_eq name) (names ++ n ∷ []) ∙ position_push (bytes_eq name) 0 names n
     ∙ ap (λ (r : Option ℕ). option_or r (cond (bytes_eq name n) (Some (0 + length names)) None)) (sym (position_from-zero (bytes_eq name) names))

@@ -9,7 +9,8 @@ use Rattle.std.proofs.lemmas.List.{reverse-append, reverse-reverse, length-rever
 use Rattle.std.proofs.lemmas.List.Sums.{sum_by-cons, prefix_len-le-length}
 use Rattle.std.proofs.lemmas.Str.{encode_ascii, encodes-chars}
 use lib.Utf8.{encode, next}
-use Rattle.text_names.specs.Place.{is_line_feed, in_64_bits, line_after, column_after}
+use Rattle.byte_words.specs.Bytes.{is_line_feed}
+use Rattle.text_names.specs.Place.{in_64_bits, line_after, column_after}
 
 -- the byte goes on with a character
 abbrev pub is_tail : ℕ → Bool
@@ -85,7 +86,7 @@ column_one n c bs =
     (cases_lt c 128)
 
 -- the column behind these characters, which begin at column n
-abbrev column_past : ℕ → List ℕ → ℕ
+abbrev pub column_past : ℕ → List ℕ → ℕ
 column_past n [] = n
 column_past n (c ∷ cs) = column_past (cond (c == 10) 1 (n + 1)) cs
 
@@ -121,7 +122,7 @@ length_after_last p cs =
     let short : prefix_len (λ c. not (p c)) (reverse cs) ≤ length cs = omega (arith, prefix_len-le-length (λ c. not (p c)) (reverse cs), length-reverse cs) in
     omega (arith, length-drop (length cs - prefix_len (λ c. not (p c)) (reverse cs)) cs)
 
-column_back_all : (cs : List ℕ) → column_past 1 cs ≡ column_after cs
+pub column_back_all : (cs : List ℕ) → column_past 1 cs ≡ column_after cs
 column_back_all cs =
     ap (λ (l : List ℕ). column_past 1 l) (sym (reverse-reverse cs)) ∙ column_back (reverse cs) ∙ ap (λ (n : ℕ). 1 + n) (sym (length_after_last is_line_feed cs))
 

@@ -7,7 +7,7 @@ use Rattle.std.specs.List.{list_any, position_or_len}
 use Rattle.std.specs.Map.{lookup}
 use Rattle.std.specs.Cmp.Lexicographic.{bytes_decides}
 use Rattle.std.proofs.lemmas.List.{map_push}
-use Rattle.text_names.specs.Entries.{by_bytes}
+use Rattle.text_names.specs.Inside.Entries.{by_bytes}
 
 pub lookup_by_bytes : {K X : Type 0} (bytes : K → List ℕ) (test : List ℕ → Bool) (es : List (K × X)) → lookup test (by_bytes bytes es) ≡ lookup (λ k. test (bytes k)) es
 lookup_by_bytes bytes test [] = refl

@@ -1,5 +1,5 @@
 -- Names in the order of their numbers.
-use Rattle.std.specs.Prelude.{◌≡◌, ℕ, ◌<◌, Bool, false, if◌then◌else◌, List, [], ◌∷◌, ◌++◌, length, Option, is_some, position, bytes_eq}
+use Rattle.std.specs.Prelude.{◌≡◌, ℕ, ◌<◌, Bool, false, if◌then◌else◌, List, [], ◌∷◌, ◌++◌, length, Option, Some, is_some, position, bytes_eq, slice_get}
 use Rattle.std.specs.List.{position_or_len}
 use Rattle.text_names.specs.declared.names.NameFault.{NameFault}
 use Rattle.text_names.specs.declared.names.NameFault.TheVariants as fault
@@ -19,6 +19,10 @@ is_held names name = is_some (number_of names name)
 -- the number of a name that is held, or the next number
 abbrev pub number_or_next : List (List ℕ) → List ℕ → ℕ
 number_or_next names name = position_or_len (bytes_eq name) names
+
+-- no name is held twice: each stands at its own number
+abbrev pub AreDistinct : List (List ℕ) → Type 0
+AreDistinct names = (k : ℕ) (name : List ℕ) → slice_get names k ≡ Some name → number_of names name ≡ Some k
 
 -- these names and one more, unless it is held
 abbrev pub with_name : List (List ℕ) → List ℕ → List (List ℕ)

@@ -1,11 +1,9 @@
 -- Where in a text a front of it ends.
-use Rattle.std.specs.Prelude.{ℕ, ◌+◌, ◌-◌, ◌^◌, ◌==◌, Bool, List, length, min, count_by}
+use Rattle.std.specs.Prelude.{◌≡◌, ◌<◌, ◌⊎◌, ℕ, ◌+◌, ◌-◌, ◌^◌, List, length, min, count_by}
 use Rattle.std.specs.List.{after_last}
 use Rattle.std.specs.Str.{chars}
+use Rattle.byte_words.specs.Bytes.{is_line_feed}
 use Rattle.text_names.specs.declared.place.Place.{Place}
-
-abbrev pub is_line_feed : ℕ → Bool
-is_line_feed c = c == 10
 
 -- a number in 64 bits, which stops at the greatest
 abbrev pub in_64_bits : ℕ → ℕ
@@ -22,3 +20,7 @@ column_after cs = 1 + length (after_last is_line_feed cs)
 -- the place behind the bytes of a text, counted in its characters
 abbrev pub place_after : List ℕ → Place
 place_after bytes = record { line = in_64_bits (line_after (chars bytes)); column = in_64_bits (column_after (chars bytes)) }
+
+-- the place stands before the other: on an earlier line, or on the same line in an earlier column
+abbrev pub IsPlaceBefore : Place → Place → Type 0
+IsPlaceBefore a b = (a.line < b.line) ⊎ ((a.line ≡ b.line) × (a.column < b.column))

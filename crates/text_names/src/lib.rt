@@ -3,6 +3,7 @@
 #![tactic(auto)]
 
 mod bytes;
+mod laws;
 mod limits;
 mod names;
 mod place;
@@ -10,6 +11,7 @@ mod prefixes;
 mod text;
 
 pub use bytes::Bytes;
+pub use laws::{names_stay_distinct, numbers_stay, places_ascend};
 pub use limits::Limits;
 pub use names::{NameFault, NameTable};
 pub use place::{Place, place_of};

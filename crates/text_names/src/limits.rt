@@ -1,3 +1,5 @@
+//! The greatest sizes of the input.
+
 ghost use Rattle.std.specs.Prelude.{◌≡◌};
 
 /// The greatest sizes of the input that are taken.
@@ -13,7 +15,8 @@ pub struct Limits {
     pub properties: u32,
     /// Rows of the table.
     pub rows: u32,
-    /// Class expressions of both ontologies, each once, with `owl:Thing`, `owl:Nothing` and all names.
+    /// Class expressions of both ontologies, each once, with `owl:Thing`, `owl:Nothing` and all
+    /// names.
     pub nodes: u32,
     /// Property names, and the proper fronts of property chains with two or more properties.
     pub roles: u32,
@@ -22,7 +25,15 @@ pub struct Limits {
 impl Limits {
     /// The limits of the programs.
     pub fn standard() -> Limits
-        ensures { result ≡ record { file_bytes = 67108864; depth = 256; classes = 500000; properties = 10000; rows = 50000; nodes = 1000000; roles = 20000 } }
+        ensures { result ≡ record {
+          file_bytes = 67108864;
+          depth = 256;
+          classes = 500000;
+          properties = 10000;
+          rows = 50000;
+          nodes = 1000000;
+          roles = 20000;
+        } }
     {
         Limits {
             file_bytes: 64 << 20,

@@ -1,6 +1,8 @@
+//! Names with numbers.
+
 ghost use Rattle.std.specs.Prelude.{◌≡◌, ◌++◌, ◌∷◌, ◌<◌, ◌≤◌, [], None, Some, length, slice_get, IsUtf8, IfOk, IfErr, OnOk, OnErr};
 ghost use Rattle.text_names.specs.Names.{number_of, number_or_next, with_name};
-ghost use Rattle.text_names.specs.NameKeys.{hash_of, key_behind};
+ghost use Rattle.text_names.specs.Inside.NameKeys.{hash_of, key_behind};
 
 use crate::Text;
 use crate::text::utf8_str;
@@ -32,7 +34,7 @@ pub struct NameTable {
 impl Model for NameTable {
     ghost use Rattle.indexmap.specs.IndexMap.{keys, values};
     ghost use Rattle.text_names.specs.Names.{Numbering};
-    ghost use Rattle.text_names.specs.NameKeys.{IsKept};
+    ghost use Rattle.text_names.specs.Inside.NameKeys.{IsKept};
 
     ghost Value = { Numbering };
 

@@ -1,3 +1,5 @@
+//! Lines and columns of a text.
+
 ghost use Rattle.std.specs.Prelude.{◌≡◌, ◌≤◌, IsUtf8, length, take};
 
 /// A line and a column, both counted from 1. A line ends after a line feed, and a column counts

@@ -1,3 +1,5 @@
+//! Prefixes with their IRIs, and the short names that they expand.
+
 ghost use Rattle.std.specs.Prelude.{◌≡◌, ◌++◌, ◌∷◌, [], None, Some, true, IsUtf8, IsOk, IfOk, IfErr, IfSome, IfNone, OnOk, OnErr, false};
 ghost use Rattle.std.specs.Option.{option_copied};
 ghost use Rattle.text_names.specs.Prefixes.{has_colon, prefix_of, rest_of};
@@ -32,7 +34,7 @@ pub struct PrefixMap {
 impl Model for PrefixMap {
     ghost use Rattle.std.specs.Prelude.{List, ℕ};
     ghost use Rattle.std.specs.String.{string_bytes};
-    ghost use Rattle.text_names.specs.Entries.{by_bytes};
+    ghost use Rattle.text_names.specs.Inside.Entries.{by_bytes};
 
     ghost Value = { List (List ℕ × List ℕ) };
 
@@ -134,7 +136,8 @@ impl PrefixMap {
 // What stands before the first colon and after it.
 #[tactic(auto, using(crate::proofs::PrefixLaws::missing_at))]
 fn split_at_colon(short: &str) -> Option<(&str, &str)>
-    ensures found { IfSome result (λ parts. (has_colon short.now ≡ true) × (parts.0.now ≡ prefix_of short.now) × (parts.1.now ≡ rest_of short.now)) }
+    ensures found { IfSome result (λ parts. (has_colon short.now ≡ true) ×
+        (parts.0.now ≡ prefix_of short.now) × (parts.1.now ≡ rest_of short.now)) }
     ensures missing { IfNone result (has_colon short.now ≡ false) }
 {
     short.split_once(':')

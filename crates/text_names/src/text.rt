@@ -1,3 +1,5 @@
+//! Texts in UTF-8.
+
 ghost use Rattle.std.specs.Prelude.{◌≡◌, ◌++◌, IfOk, IsUtf8};
 
 use std::alloc::{AllocError, Global};
@@ -29,11 +31,11 @@ impl Model for Text {
 }
 
 impl Text {
-    ghost use Rattle.text_names.specs.Text.{IsReadAs};
+    ghost use Rattle.text_names.specs.Text.{IsTextOf};
 
     /// The text of these bytes. No memory is asked for before they are known to be UTF-8.
     pub fn of(alloc: Global, bytes: &[u8]) -> Result<Text, TextFault>
-        ensures { IsReadAs bytes.now result }
+        ensures { IsTextOf bytes.now result }
     {
         match str::from_utf8(bytes) {
             Ok(text) => match String::from_str(alloc, text) {
@@ -54,7 +56,8 @@ impl Text {
     }
 
     pub fn as_str(&self) -> &str
-        ensures { result.now ≡ self.now }
+        ensures value { result.now ≡ self.now }
+        ensures utf8 { IsUtf8 result.now }
     {
         self.text.as_str()
     }

@@ -1,5 +1,5 @@
 use Rattle.std.proofs.Common.{arith, refl}
-use Rattle.ofn_term.specs.Reading.{pieces_of}
+use Rattle.ofn_term.specs.Inside.PieceReading.{pieces_of}
 use Rattle.ofn_term.proofs.Closing.{fault_behind_group}
 use Rattle.ofn_term.proofs.Pushing.{none_yet}
 use Rattle.ofn_term.proofs.groups.+groups.Goals as goal

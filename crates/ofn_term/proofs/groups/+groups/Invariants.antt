@@ -1,5 +1,5 @@
 use Rattle.std.proofs.Common.{◌≡◌, ◌≤◌, ◌+◌, ◌*◌, length, ◌++◌}
-use Rattle.ofn_term.specs.Reading.{pieces_of, bracket_fault}
+use Rattle.ofn_term.specs.Inside.PieceReading.{pieces_of, bracket_fault}
 use Rattle.ofn_term.specs.Writing.{pieces}
 use Rattle.ofn_term.proofs.groups.+groups.Given as goal
 

@@ -9,7 +9,7 @@ use Rattle.ofn_term.specs.declared.item.Item.{Item}
 use Rattle.ofn_term.specs.Brackets.{IsBracketAt}
 use Rattle.ofn_term.specs.Texts.{HasItems, IsFirstFault, IsOfCharacters, IsAtCharacter}
 use Rattle.ofn_term.specs.Writing.{pieces, tokens_of}
-use Rattle.ofn_term.specs.Reading.{pieces_of, bracket_fault, IsFaultUnlessMemory}
+use Rattle.ofn_term.specs.Inside.PieceReading.{pieces_of, bracket_fault, IsFaultUnlessMemory}
 use Rattle.ofn_term.proofs.TextLaws.{said, fault_of_brackets, written, items_of_tokens}
 use Rattle.ofn_term.proofs.read.read_items.Goals as goal
 

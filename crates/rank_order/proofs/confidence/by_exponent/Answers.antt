@@ -1,5 +1,5 @@
 use Rattle.std.proofs.Common.{⊎_elim, sym, arith}
-use Rattle.rank_order.specs.Scale.{value_of}
+use Rattle.rank_order.specs.Inside.Scale.{value_of}
 use Rattle.rank_order.proofs.PowerLaws.{far_none, none_at}
 use Rattle.rank_order.proofs.confidence.by_exponent.Goals as goal
 

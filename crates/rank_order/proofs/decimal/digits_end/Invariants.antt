@@ -1,5 +1,5 @@
 use Rattle.std.proofs.Common.{◌≡◌, ◌+◌, length, drop}
-use Rattle.rank_order.specs.Reading.{front_digits}
+use Rattle.rank_order.specs.DecimalTexts.{front_digits}
 use Rattle.rank_order.proofs.decimal.digits_end.Given as goal
 
 abbrev pub invariant-loop-byte : goal.invariant-loop-byte

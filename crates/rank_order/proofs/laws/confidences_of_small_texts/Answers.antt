@@ -1,7 +1,7 @@
 use Rattle.std.proofs.Common.{◌≡◌, ℕ, ◌*◌, ◌^◌, List, [], refl, arith, sym, subst, ◌∙◌}
 use Rattle.std.specs.Prelude.{Some, None, codes}
 use Rattle.rank_order.specs.Decimal.{Sign, Decimal, IsConfidence}
-use Rattle.rank_order.specs.Reading.{decimal_of}
+use Rattle.rank_order.specs.DecimalTexts.{decimal_of}
 use Rattle.rank_order.proofs.ConfidenceLaws.{confidence_from, confidence_is, IsScaledDecimal}
 use Rattle.rank_order.proofs.laws.confidences_of_small_texts.Goals as goal
 

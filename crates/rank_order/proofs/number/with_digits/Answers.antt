@@ -1,5 +1,5 @@
 use Rattle.std.proofs.Common.{arith}
-use Rattle.rank_order.specs.Scale.{value_of}
+use Rattle.rank_order.specs.Inside.Scale.{value_of}
 use Rattle.rank_order.proofs.PowerLaws.{digits_step, digits_at, fine_step}
 use Rattle.rank_order.proofs.number.with_digits.Goals as goal
 

@@ -4,13 +4,11 @@ use Rattle.std.specs.Cmp.Lexicographic.{bytes_decides}
 use Rattle.std.proofs.lemmas.Bool.Decides.{nat_tests}
 use Rattle.std.proofs.lemmas.List.Elements.{Contains-append_left, Contains-append_right, Contains-append_cases, Contains-push, Contains-push_cases}
 use Rattle.std.proofs.lemmas.List.Sums.{passes_at_first}
-use Rattle.text_names.specs.Names.{number_of, with_name, is_held}
-use Rattle.text_names.specs.NameKeys.{AreDistinct}
-use Rattle.text_names.proofs.NameLaws.{distinct_push}
+use Rattle.text_names.specs.Names.{with_name, is_held, AreDistinct}
 use Rattle.repair_run.specs.Axioms.{with_names}
 use Rattle.repair_run.proofs.laws.names_are_numbered_as_they_occur.Goals as goal
 
--- a name that is held is one of the names, and one that is not held has no number
+-- a name that is held is one of the names
 held_within : (names : List (List ℕ)) (name : List ℕ) → is_held names name ≡ true → position_or_len (bytes_eq name) names < length names
 held_within names name e = grind (arith, nat_tests)
 
@@ -18,13 +16,6 @@ is_one : (names : List (List ℕ)) (name : List ℕ) → is_held names name ≡ 
 is_one names name e =
     let within = held_within names name e in
     (position_or_len (bytes_eq name) names, within, sym ((bytes_decides name _).0 (passes_at_first (bytes_eq name) names name within)))
-
-no_number : (names : List (List ℕ)) (name : List ℕ) → is_held names name ≡ false → number_of names name ≡ None
-no_number names name e = by (number_of names name) e
-  where
-    by : (o : Option ℕ) → is_some o ≡ false → o ≡ None
-    by None e = refl
-    by (Some k) e = cc
 
 -- one more name
 some_added : (names : List (List ℕ)) (more name : List ℕ) → Contains (with_name names more) name → Contains names name ⊎ (more ≡ name)
@@ -48,13 +39,6 @@ now_there names name = by (is_held names name) refl
     by true e = is_one names name e
     by false e = Contains-push names name
 
-distinct_more : (names : List (List ℕ)) (name : List ℕ) → AreDistinct names → AreDistinct (with_name names name)
-distinct_more names name h = by (is_held names name) refl
-  where
-    by : (b : Bool) → is_held names name ≡ b → AreDistinct (if b then names else names ++ name ∷ [])
-    by true e = h
-    by false e = distinct_push names name h (no_number names name e)
-
 -- all names that occur
 occurs : (names occurring : List (List ℕ)) (name : List ℕ) → Contains (with_names names occurring) name → Contains names name ⊎ Contains occurring name
 occurs names [] name h = inl h
@@ -75,9 +59,13 @@ numbered names (first ∷ occurring) name h = ⊎_elim
     (λ later. numbered (with_name names first) occurring name later)
     (Contains-append_cases (first ∷ []) occurring name h)
 
-distinct : (names occurring : List (List ℕ)) → AreDistinct names → AreDistinct (with_names names occurring)
-distinct names [] h = h
-distinct names (first ∷ occurring) h = distinct (with_name names first) occurring (distinct_more names first h)
+-- one more name leaves names distinct
+abbrev StayDistinct : Type 0
+StayDistinct = (names : List (List ℕ)) (name : List ℕ) → AreDistinct names → AreDistinct (with_name names name)
+
+distinct : StayDistinct → (names occurring : List (List ℕ)) → AreDistinct names → AreDistinct (with_names names occurring)
+distinct more names [] h = h
+distinct more names (first ∷ occurring) h = distinct more (with_name names first) occurring (more names first h)
 
 pub returns-clause-each : goal.returns-clause-each
 returns-clause-each c = λ occurring name. (
@@ -86,4 +74,4 @@ returns-clause-each c = λ occurring name. (
 )
 
 pub returns-clause-once : goal.returns-clause-once
-returns-clause-once c = λ occurring. distinct [] occurring (λ k name at. cc)
+returns-clause-once c = λ occurring. distinct c.names_stay_distinct.ensures.more [] occurring c.names_stay_distinct.ensures.none

@@ -1,5 +1,5 @@
 use Rattle.std.proofs.Common.{◌≡◌, drop}
-use Rattle.sssom_head.specs.Reading.{quote_at}
+use Rattle.sssom_head.specs.HeaderSteps.{quote_at}
 use Rattle.sssom_head.proofs.entry.quote_at.Given as goal
 
 abbrev pub invariant-loop-i : goal.invariant-loop-i

@@ -1,6 +1,6 @@
 use Rattle.std.proofs.Common.{◌≡◌, ◌+◌, ◌≤◌, length}
 use Rattle.sssom_head.specs.Lines.{header_lines, bytes_in, contents_of}
-use Rattle.sssom_head.specs.Reading.{at_place, run}
+use Rattle.sssom_head.specs.HeaderSteps.{at_place, run}
 use Rattle.sssom_head.specs.Heads.{read}
 use Rattle.sssom_head.proofs.head.read_lines.Given as goal
 

@@ -1,6 +1,6 @@
 use Rattle.std.proofs.Common.{◌∙◌, sym, ap, [], ◌∷◌, ◌++◌, length, arith}
 use Rattle.text_names.specs.Names.{number_of}
-use Rattle.text_names.specs.NameKeys.{key_behind}
+use Rattle.text_names.specs.Inside.NameKeys.{key_behind}
 use Rattle.text_names.proofs.NameLaws.{grown, values_grown, kept_push}
 use Rattle.text_names.proofs.names.NameTable.add.Goals as goal
 

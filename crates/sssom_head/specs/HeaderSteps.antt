@@ -5,11 +5,11 @@ use Rattle.std.specs.Str.{is_utf8}
 use Rattle.text_names.specs.Prefixes.{Prefixes, iri_of, with_prefix}
 use Rattle.sssom_head.specs.declared.head.HeadFault.{HeadFault}
 use Rattle.sssom_head.specs.declared.head.HeadFault.TheVariants.{MapForm, Again}
-use Rattle.sssom_head.specs.declared.place.Place.{Place}
-use Rattle.sssom_head.specs.declared.place.Place.TheVariants.{Before, Inside, Past}
+use Rattle.sssom_head.specs.declared.place.MapPlace.{MapPlace}
+use Rattle.sssom_head.specs.declared.place.MapPlace.TheVariants.{Before, Inside, Past}
 use Rattle.sssom_head.specs.Lines.{begins_with_hash}
 use Rattle.sssom_head.specs.Contents.{indentation, behind_spaces, is_empty_list, is_blank, map_text, is_empty_map}
-use Rattle.sssom_head.specs.Entries.{is_quote, is_quoted_byte, is_key_byte, is_mark, is_value_byte}
+use Rattle.sssom_head.specs.Entries.{is_quote, is_quoted_byte, is_key_byte, is_indicator, is_value_byte}
 
 abbrev pub Pair : Type 0
 Pair = List ℕ × List ℕ
@@ -36,7 +36,7 @@ abbrev pub value_in : List ℕ → Option Pair
 value_in [] = None
 value_in (b ∷ bs) =
     if is_quote b then split_quote bs (quote_at b 0 bs) else
-    if is_mark b then None else split_some (prefix_len is_value_byte (b ∷ bs)) (b ∷ bs)
+    if is_indicator b then None else split_some (prefix_len is_value_byte (b ∷ bs)) (b ∷ bs)
 
 abbrev pub behind_some_spaces : List ℕ → Option (List ℕ)
 behind_some_spaces [] = None
@@ -73,13 +73,13 @@ entry_of content = if is_utf8 content then entry_in (behind_spaces content) else
 
 -- the lines so far lead to this place and have these entries
 pub record State : Type 0 where
-  pub place : Place
+  pub place : MapPlace
   pub prefixes : Prefixes
 
 abbrev pub Answer : Type 0
 Answer = Result State HeadFault
 
-abbrev pub at_place : Place → Prefixes → Answer
+abbrev pub at_place : MapPlace → Prefixes → Answer
 at_place place prefixes = Ok (record { place = place; prefixes = prefixes })
 
 -- the first line of a map
@@ -109,19 +109,19 @@ inside_by line map entries prefixes content =
     if has_indentation entries (indentation content) then with_entry line map (indentation content) prefixes (entry_of content) else Err (MapForm line)
 
 -- a line that begins no map
-abbrev pub other_line : ℕ → Place → Prefixes → List ℕ → Answer
+abbrev pub other_line : ℕ → MapPlace → Prefixes → List ℕ → Answer
 other_line line Before prefixes content = at_place Before prefixes
 other_line line Past prefixes content = at_place Past prefixes
 other_line line (Inside map entries) prefixes content =
     if is_blank content then at_place (Inside map entries) prefixes else inside_by line map entries prefixes content
 
 -- a line that begins one
-abbrev pub map_line : ℕ → Place → Prefixes → List ℕ → List ℕ → Answer
+abbrev pub map_line : ℕ → MapPlace → Prefixes → List ℕ → List ℕ → Answer
 map_line line Before prefixes content text = begun_by line content prefixes text
 map_line line Past prefixes content text = Err (MapForm line)
 map_line line (Inside map entries) prefixes content text = Err (MapForm line)
 
-abbrev pub by_line : ℕ → Place → Prefixes → List ℕ → Option (List ℕ) → Answer
+abbrev pub by_line : ℕ → MapPlace → Prefixes → List ℕ → Option (List ℕ) → Answer
 by_line line place prefixes content None = other_line line place prefixes content
 by_line line place prefixes content (Some text) = map_line line place prefixes content text
 

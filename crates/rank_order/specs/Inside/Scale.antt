@@ -1,6 +1,6 @@
 -- Whole numbers times powers of ten.
 use Rattle.std.specs.Prelude.{◌≡◌, ◌≢◌, ◌≤◌, ◌⊎◌, ℕ, ◌+◌, ◌*◌, ◌%◌, ◌^◌, Bool, List, length}
-use Rattle.rank_order.specs.Decimal.{number_of, raised_by, lowered_by}
+use Rattle.rank_order.specs.Decimal.{digits_value, raised_by, lowered_by}
 use Rattle.rank_order.specs.declared.number.Number.{Number}
 
 -- the number with `up` zeros behind it is `units` with `down` zeros, and these are 10 ^ 36 at most
@@ -22,14 +22,14 @@ pub record IsShort (n : Number) : Type 0 where
 
 -- the number whose digits stand in two lists
 abbrev pub joined_number : List ℕ → List ℕ → ℕ
-joined_number whole fraction = number_of whole * 10 ^ length fraction + number_of fraction
+joined_number whole fraction = digits_value whole * 10 ^ length fraction + digits_value fraction
 
 -- the zeros that units and an exponent put behind a number, and those that places behind the point and an exponent take
 abbrev pub up_by : Bool → List ℕ → ℕ
-up_by lowers exponent = 36 + raised_by lowers (number_of exponent)
+up_by lowers exponent = 36 + raised_by lowers (digits_value exponent)
 
 abbrev pub down_by : ℕ → Bool → List ℕ → ℕ
-down_by places lowers exponent = places + lowered_by lowers (number_of exponent)
+down_by places lowers exponent = places + lowered_by lowers (digits_value exponent)
 
 -- the same of a number of which so many digits stand behind the point, and which an exponent follows
 abbrev pub IsScaledBy : ℕ → ℕ → Bool → List ℕ → ℕ → Type 0

@@ -1,7 +1,7 @@
 -- How a table keeps its names: each under its hash and how many names of this hash stand before it.
-use Rattle.std.specs.Prelude.{◌≡◌, ℕ, ◌^◌, ◌<◌, ◌≤◌, ◌==◌, List, [], ◌∷◌, ◌++◌, length, Some, count_by, slice_get}
+use Rattle.std.specs.Prelude.{◌≡◌, ℕ, ◌^◌, ◌<◌, ◌≤◌, ◌==◌, List, [], ◌∷◌, ◌++◌, length, count_by}
 use Rattle.std.specs.Hash.FoldHasher.{initial, write, finish}
-use Rattle.text_names.specs.Names.{number_of}
+use Rattle.text_names.specs.Names.{AreDistinct}
 
 abbrev pub hash_of : List ℕ → ℕ
 hash_of name = finish (write initial name)
@@ -18,10 +18,6 @@ key_behind before name = (hash_of name, count_with_hash before (hash_of name))
 abbrev pub keys_behind : List (List ℕ) → List (List ℕ) → List (ℕ × ℕ)
 keys_behind before [] = []
 keys_behind before (name ∷ names) = key_behind before name ∷ keys_behind (before ++ name ∷ []) names
-
--- no name is held twice
-abbrev pub AreDistinct : List (List ℕ) → Type 0
-AreDistinct names = (k : ℕ) (name : List ℕ) → slice_get names k ≡ Some name → number_of names name ≡ Some k
 
 pub record IsKept (keys : List (ℕ × ℕ)) (names : List (List ℕ)) (most : ℕ) : Type 0 where
   pub keyed : keys ≡ keys_behind [] names

@@ -7,12 +7,12 @@ use Rattle.ofn_lex.specs.declared.token.TokenKind.TheVariants.{Open, Close, Equa
 use Rattle.ofn_lex.specs.declared.token.Token.{Token}
 use Rattle.ofn_lex.specs.declared.token.LexFault.{LexFault}
 
--- the token of a kind, where it has an end
+-- the token of a kind, if it has an end
 abbrev pub token_to : TokenKind → ℕ → Option ℕ → Option Token
 token_to kind start None = None
 token_to kind start (Some end) = Some (record { kind = kind; start = start; end = end })
 
--- the token at the offset n, where the byte b stands before these; None where b begins no token
+-- the token at the offset n, with the byte b before these; None if b begins no token
 abbrev pub token_at : ℕ → ℕ → List ℕ → Option Token
 token_at n b bs =
     if b == 40 then token_to Open n (Some (n + 1)) else
