@@ -8,9 +8,9 @@ use Rattle.repair_run.specs.declared.first_form.DocumentText.{DocumentText}
 use Rattle.repair_run.specs.declared.first_form.TableText.{TableText}
 use Rattle.repair_run.specs.declared.status.Status.{Status}
 use Rattle.repair_run.specs.Axioms.{AreCoherentTogether, IsFoundIn}
-use Rattle.repair_run.specs.Plan.{Plan, Refused, plan, Ready}
+use Rattle.repair_run.specs.Inside.Plan.{Plan, Refused, plan, Ready}
 use Rattle.repair_run.specs.Run.{Run, IfTold, Outcome, HasGotSummary, IsDone, IsIncoherentCase, IsRun, FilesStand, OutputStands, IsOrMemory, IsOrReadStop}
-use Rattle.repair_run.specs.Stops.{IsStop, IsQuiet}
+use Rattle.repair_run.specs.Inside.Stops.{IsStop, IsQuiet}
 use Rattle.repair_run.specs.Texts.{AreRead, IsUnbuilt, Texts}
 use Rattle.repair_run.specs.Words.{FileNames}
 use Rattle.repair_run.proofs.FoundLaws.{one_found_in, found_incoherent}

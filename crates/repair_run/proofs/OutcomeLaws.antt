@@ -11,7 +11,7 @@ use Rattle.repair_run.specs.declared.first_form.DocumentText.{DocumentText}
 use Rattle.repair_run.specs.declared.first_form.TableText.{TableText}
 use Rattle.repair_run.specs.Axioms.{axioms_of_both, class_names}
 use Rattle.repair_run.specs.Choice.{confidence_of, AreMarked, IsChosen}
-use Rattle.repair_run.specs.Diagnosis.{AreIncoherentWith}
+use Rattle.repair_run.specs.Inside.Diagnosis.{AreIncoherentWith}
 use Rattle.repair_run.specs.FirstForm.{repaired_text}
 use Rattle.repair_run.specs.Run.{Outcome, kept_count, out_text, summary_of, summary_text}
 use Rattle.repair_run.specs.Words.{FileNames}

@@ -11,7 +11,7 @@ use Rattle.repair_run.specs.FirstForm.{IsDocumentText, IsTableText}
 use Rattle.repair_run.specs.Reading.{document_of, table_of}
 use Rattle.repair_run.specs.Words.{FileNames}
 use Rattle.repair_run.specs.Texts.{max_bytes, IsShort, AreShort, IsFileOf, AreRead, IsDocumentFile, IsTableFile, IsUnbuilt}
-use Rattle.repair_run.specs.Plan.{Plan, Missing, Refused, Ready, sized, formed, plan_of_texts, plan, IsPlanOf, IsLoaded, IsTextStop, IsTextsStop, IsLoadStop}
+use Rattle.repair_run.specs.Inside.Plan.{Plan, Missing, Refused, Ready, sized, formed, plan_of_texts, plan, IsPlanOf, IsLoaded, IsTextStop, IsTextsStop, IsLoadStop}
 use Rattle.repair_run.proofs.DocumentLaws.{document_sound, document_complete}
 use Rattle.repair_run.proofs.TableLaws.{table_sound, table_complete}
 

@@ -8,12 +8,12 @@ use Rattle.repair_run.specs.declared.first_form.TableText.{TableText}
 use Rattle.repair_run.specs.declared.status.Status.{Status}
 use Rattle.repair_run.specs.Axioms.{axioms_of_both, class_names}
 use Rattle.repair_run.specs.Choice.{IsChosen}
-use Rattle.repair_run.specs.Diagnosis.{IsDiagnosisStop}
+use Rattle.repair_run.specs.Inside.Diagnosis.{IsDiagnosisStop}
 use Rattle.repair_run.specs.FirstForm.{repaired_text}
-use Rattle.repair_run.specs.Plan.{IsLoaded, IsLoadStop}
+use Rattle.repair_run.specs.Inside.Plan.{IsLoaded, IsLoadStop}
 use Rattle.repair_run.specs.Run.{Run, IfTold, HasGot, HasGotSummary, Outcome, summary_text, kept_count, IsDone, IsWritten, IsTorn, IsPutShort, IsRepairable, FilesStand, OutputStands}
 use Rattle.repair_run.specs.Status.{refusal_line}
-use Rattle.repair_run.specs.Stops.{IsStop, IsQuiet, IsWriteStop}
+use Rattle.repair_run.specs.Inside.Stops.{IsStop, IsQuiet, IsWriteStop}
 use Rattle.repair_run.specs.Texts.{AreRead, Texts}
 use Rattle.repair_run.specs.Words.{FileNames}
 

@@ -2,8 +2,8 @@
 ghost use Rattle.std.specs.Prelude.{◌≡◌, IfOk, IfErr};
 ghost use Rattle.io_edge.specs.Outside.{FaultsNeverFall};
 ghost use Rattle.repair_run.specs.FirstForm.{AreOfForm};
-ghost use Rattle.repair_run.specs.Named.{named};
-ghost use Rattle.repair_run.specs.Plan.{IsRead, IsReadStop, IsPlanOf, IsLoaded, IsTextStop, IsTextsStop, IsLoadStop, plan_of_texts, Ready};
+ghost use Rattle.repair_run.specs.Inside.Named.{named};
+ghost use Rattle.repair_run.specs.Inside.Plan.{IsRead, IsReadStop, IsPlanOf, IsLoaded, IsTextStop, IsTextsStop, IsLoadStop, plan_of_texts, Ready};
 
 use crate::documents::read_document;
 use crate::first_form::{DocumentText, TableText};

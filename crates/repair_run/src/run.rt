@@ -2,9 +2,9 @@
 ghost use Rattle.std.specs.Prelude.{◌≡◌, None, Some, IfErr, IfNone, IfSome, OnOk};
 ghost use Rattle.io_edge.specs.Outside.{FaultsNeverFall, with_file};
 ghost use Rattle.repair_run.specs.Words.{names_given};
-ghost use Rattle.repair_run.specs.Named.{named};
+ghost use Rattle.repair_run.specs.Inside.Named.{named};
 ghost use Rattle.repair_run.specs.Run.{run_over, IfTold, HasGot, HasGotSummary, IsDone, IsRun, IsUntouched, IsOrMemory, FilesStand, OutputStands};
-ghost use Rattle.repair_run.specs.Stops.{IsStop, IsQuiet, IsWriteStop};
+ghost use Rattle.repair_run.specs.Inside.Stops.{IsStop, IsQuiet, IsWriteStop};
 
 use crate::diagnosis::diagnose;
 use crate::load::load;

@@ -1,7 +1,7 @@
 //! The words of a command.
 ghost use Rattle.std.specs.Prelude.{◌≡◌, None, Some, MatchOption};
 ghost use Rattle.repair_run.specs.Words.{is_file_name, names_given};
-ghost use Rattle.repair_run.specs.Named.{named};
+ghost use Rattle.repair_run.specs.Inside.Named.{named};
 
 use text_names::Text;
 

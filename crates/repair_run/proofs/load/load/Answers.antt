@@ -1,4 +1,4 @@
-use Rattle.repair_run.specs.Named.{named}
+use Rattle.repair_run.specs.Inside.Named.{named}
 use Rattle.repair_run.proofs.PlanLaws.{is_loaded, texts_stop, text_stop}
 use Rattle.repair_run.proofs.load.load.Goals as goal
 

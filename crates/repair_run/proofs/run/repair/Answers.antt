@@ -1,4 +1,4 @@
-use Rattle.repair_run.specs.Named.{named}
+use Rattle.repair_run.specs.Inside.Named.{named}
 use Rattle.repair_run.specs.Run.{run_over}
 use Rattle.repair_run.proofs.AnswerLaws.{done_run, refused_run, later_stop, later_files, refused_output}
 use Rattle.repair_run.proofs.run.repair.Goals as goal

@@ -1,7 +1,7 @@
 use Rattle.std.proofs.Common.{ℕ, Bool, List, Option, IfSome, Some, ◌≡◌, length, ◌∙◌, ap, subst}
 use Rattle.io_edge.specs.Outside.{Files, with_file}
 use Rattle.repair_run.specs.FirstForm.{repaired_text}
-use Rattle.repair_run.specs.Named.{named}
+use Rattle.repair_run.specs.Inside.Named.{named}
 use Rattle.repair_run.specs.Run.{run_over, summary_text}
 use Rattle.repair_run.proofs.RunLaws.{from_first, diagnosis_stop, done, got_summary, write_files, write_stop}
 use Rattle.repair_run.proofs.run.run.Goals as goal
