@@ -3,8 +3,12 @@ use Rattle.std.proofs.Common.{◌≡◌, ◌∙◌, ℕ, zero, suc, ◌+◌, ◌
 use Rattle.std.specs.Prelude.{Option, Some, None, IsUtf8, ◌==◌, ⊤, replicate}
 use Rattle.std.specs.List.{AllByRecursion, prefix_len}
 use Rattle.std.specs.Str.{is_utf8}
+use Rattle.std.proofs.Math.Seq.{take-append_seam}
+use Rattle.std.proofs.lemmas.Bool.{and_parts, eq-eqb, eqb-true}
 use Rattle.std.proofs.lemmas.Bool.Decides.{nat_tests}
 use Rattle.std.proofs.lemmas.Str.{IsUtf8-from_is_utf8, is_utf8-from_IsUtf8, IsUtf8-take, IsUtf8-drop, IsCharBoundary-before_ascii, IsCharBoundary-after_ascii}
+use Rattle.byte_words.specs.Bytes.{is_space}
+use Rattle.byte_words.specs.Lists.{AllPassing, BeginsWithout}
 use Rattle.sssom_head.specs.Lines.{begins_with_hash}
 use Rattle.sssom_head.specs.Contents.{behind_spaces, indentation}
 use Rattle.sssom_head.specs.Entries.{is_quote, is_quoted_byte, is_key_byte, is_indicator, is_value_byte, Word, word_text, word_bytes, IsKey, BeginsValue, IsValue, Comment, comment_text, IsComment, Entry, entry_text, IsEntry}
@@ -14,11 +18,6 @@ use Rattle.sssom_head.specs.HeaderSteps.{Pair, split_some, quote_at, split_quote
 get_mid : (xs ys : List ℕ) (b : ℕ) → get_or (xs ++ b ∷ ys) (length xs) 0 ≡ b
 get_mid [] ys b = refl
 get_mid (x ∷ xs) ys b = get_mid xs ys b
-
-take_mid : (xs ys : List ℕ) → take (length xs) (xs ++ ys) ≡ xs
-take_mid [] [] = refl
-take_mid [] (y ∷ ys) = refl
-take_mid (x ∷ xs) ys = ap (λ (l : List ℕ). x ∷ l) (take_mid xs ys)
 
 drop_mid : (xs ys : List ℕ) (b : ℕ) → drop (suc (length xs)) (xs ++ b ∷ ys) ≡ ys
 drop_mid [] ys b = refl
@@ -30,29 +29,11 @@ utf8_parts xs ys b small h =
     let within : length xs < length whole = omega (arith, length-append xs (b ∷ ys)) in
     let low : get_or whole (length xs) 0 < 128 = omega (arith, get_mid xs ys b) in
     let next : length xs + 1 ≡ suc (length xs) = omega arith in (
-      subst IsUtf8 (take_mid xs (b ∷ ys)) (IsUtf8-take whole (length xs) h (IsCharBoundary-before_ascii whole (length xs) within low)),
+      subst IsUtf8 (take-append_seam xs (b ∷ ys)) (IsUtf8-take whole (length xs) h (IsCharBoundary-before_ascii whole (length xs) within low)),
       subst IsUtf8 (ap (λ (k : ℕ). drop k whole) next ∙ drop_mid xs ys b) (IsUtf8-drop whole (length xs + 1) h (IsCharBoundary-after_ascii whole (length xs) h within low)),
     )
 
-same_number : (a b : ℕ) → (a == b) ≡ true → a ≡ b
-same_number a b e = grind (arith, nat_tests)
-
-both_true : (a b : Bool) → (a && b) ≡ true → (a ≡ true) × (b ≡ true)
-both_true true b e = (refl, e)
-both_true false b e = absurd cc
-
-abbrev pub AllPass : (ℕ → Bool) → List ℕ → Type 0
-AllPass p bytes = AllByRecursion (λ b. p b ≡ true) bytes
-
--- the bytes are none, or the first fails the test
-abbrev pub BeginsWithout : (ℕ → Bool) → List ℕ → Type 0
-BeginsWithout p [] = ⊤
-BeginsWithout p (b ∷ bs) = p b ≡ false
-
 -- spaces at the front
-abbrev pub is_space : ℕ → Bool
-is_space b = b == 32
-
 spaces_join : (text : List ℕ) → text ≡ replicate (indentation text) 32 ++ behind_spaces text
 spaces_join [] = refl
 spaces_join (b ∷ bs) = by (b == 32) refl (spaces_join bs)
@@ -60,7 +41,7 @@ spaces_join (b ∷ bs) = by (b == 32) refl (spaces_join bs)
     by : (d : Bool) → (b == 32) ≡ d → bs ≡ replicate (indentation bs) 32 ++ behind_spaces bs → b ∷ bs ≡ replicate (cond d (1 + indentation bs) 0) 32 ++ cond d (behind_spaces bs) (b ∷ bs)
     by true e rest =
         let more : suc (indentation bs) ≡ 1 + indentation bs = omega arith in
-        ap (λ (k : ℕ). k ∷ bs) (same_number b 32 e) ∙ ap (λ (l : List ℕ). 32 ∷ l) rest ∙ ap (λ (k : ℕ). replicate k 32 ++ behind_spaces bs) more
+        ap (λ (k : ℕ). k ∷ bs) (eqb-true b 32 e) ∙ ap (λ (l : List ℕ). 32 ∷ l) rest ∙ ap (λ (k : ℕ). replicate k 32 ++ behind_spaces bs) more
     by false e rest = refl
 
 spaces_end : (text : List ℕ) → BeginsWithout is_space (behind_spaces text)
@@ -84,7 +65,7 @@ record QuoteFound (quote n m : ℕ) (bytes : List ℕ) : Type 0 where
   own : List ℕ
   rest : List ℕ
   whole : bytes ≡ own ++ quote ∷ rest
-  all : AllPass (is_quoted_byte quote) own
+  all : AllPassing (is_quoted_byte quote) own
   at : m ≡ n + length own
 
 quote_found : (quote n m : ℕ) (bytes : List ℕ) → quote_at quote n bytes ≡ Some m → QuoteFound quote n m bytes
@@ -100,18 +81,15 @@ quote_found quote n m (b ∷ bs) e = first (b == quote) refl e (quote_found quot
 
     first : (d : Bool) → (b == quote) ≡ d → cond d (Some n) (cond (is_quoted_byte quote b) (quote_at quote (n + 1) bs) None) ≡ Some m →
         (quote_at quote (n + 1) bs ≡ Some m → QuoteFound quote (n + 1) m bs) → QuoteFound quote n m (b ∷ bs)
-    first true t h rest = record { own = []; rest = bs; whole = ap (λ (k : ℕ). k ∷ bs) (same_number b quote t); all = tt; at = let same : n ≡ m = cc in omega (arith, same) }
+    first true t h rest = record { own = []; rest = bs; whole = ap (λ (k : ℕ). k ∷ bs) (eqb-true b quote t); all = tt; at = let same : n ≡ m = cc in omega (arith, same) }
     first false t h rest = second (is_quoted_byte quote b) refl h rest
 
 no_quote : (quote b : ℕ) → is_quoted_byte quote b ≡ true → (b == quote) ≡ false
 no_quote quote b e = grind (arith, nat_tests)
 
-own_quote : (quote : ℕ) → (quote == quote) ≡ true
-own_quote quote = grind (arith, nat_tests)
-
-quote_back : (quote n : ℕ) (own rest : List ℕ) → AllPass (is_quoted_byte quote) own → quote_at quote n (own ++ quote ∷ rest) ≡ Some (n + length own)
+quote_back : (quote n : ℕ) (own rest : List ℕ) → AllPassing (is_quoted_byte quote) own → quote_at quote n (own ++ quote ∷ rest) ≡ Some (n + length own)
 quote_back quote n [] rest all =
-    ap (λ (d : Bool). cond d (Some n) (cond (is_quoted_byte quote quote) (quote_at quote (n + 1) rest) None)) (own_quote quote)
+    ap (λ (d : Bool). cond d (Some n) (cond (is_quoted_byte quote quote) (quote_at quote (n + 1) rest) None)) (eq-eqb quote quote refl)
     ∙ ap (λ (k : ℕ). Some k) (let e : n ≡ n + 0 = omega arith in e)
 quote_back quote n (b ∷ bs) rest all =
     let more : n + 1 + length bs ≡ n + length (b ∷ bs) = omega arith in
@@ -124,12 +102,12 @@ abbrev some_pair : List ℕ → List ℕ → Option Pair
 some_pair front back = Some (front, back)
 
 record Split (p : ℕ → Bool) (text : List ℕ) (parts : Pair) : Type 0 where
-  all : AllPass p parts.0
+  all : AllPassing p parts.0
   some : 1 ≤ length parts.0
   whole : text ≡ parts.0 ++ parts.1
 
 record QuoteSplit (quote : ℕ) (text : List ℕ) (parts : Pair) : Type 0 where
-  all : AllPass (is_quoted_byte quote) parts.0
+  all : AllPassing (is_quoted_byte quote) parts.0
   whole : text ≡ parts.0 ++ quote ∷ parts.1
 
 next : (xs ys : List ℕ) (b : ℕ) → drop (length xs + 1) (xs ++ b ∷ ys) ≡ ys
@@ -143,31 +121,31 @@ quote_split quote text parts h = by (quote_at quote 0 text) refl h
     by (Some m) e h =
         let found = quote_found quote 0 m text e in
         let at : m ≡ length found.own = omega (arith, found.at) in
-        let front : take m text ≡ found.own = ap (λ (k : ℕ). take k text) at ∙ ap (λ (l : List ℕ). take (length found.own) l) found.whole ∙ take_mid found.own (quote ∷ found.rest) in
+        let front : take m text ≡ found.own = ap (λ (k : ℕ). take k text) at ∙ ap (λ (l : List ℕ). take (length found.own) l) found.whole ∙ take-append_seam found.own (quote ∷ found.rest) in
         let back : drop (m + 1) text ≡ found.rest = ap (λ (k : ℕ). drop (k + 1) text) at ∙ ap (λ (l : List ℕ). drop (length found.own + 1) l) found.whole ∙ next found.own found.rest quote in
         let pair : Pair = (take m text, drop (m + 1) text) in
         let same : pair ≡ parts = cc in
         subst (QuoteSplit quote text) same
-        (record { all = subst (AllPass (is_quoted_byte quote)) (sym front) found.all; whole = found.whole ∙ ap (λ (l : List ℕ). l ++ quote ∷ found.rest) (sym front) ∙ ap (λ (l : List ℕ). take m text ++ quote ∷ l) (sym back) })
+        (record { all = subst (AllPassing (is_quoted_byte quote)) (sym front) found.all; whole = found.whole ∙ ap (λ (l : List ℕ). l ++ quote ∷ found.rest) (sym front) ∙ ap (λ (l : List ℕ). take m text ++ quote ∷ l) (sym back) })
 
-quote_again : (quote : ℕ) (own rest : List ℕ) → AllPass (is_quoted_byte quote) own → split_quote (own ++ quote ∷ rest) (quote_at quote 0 (own ++ quote ∷ rest)) ≡ Some (own, rest)
+quote_again : (quote : ℕ) (own rest : List ℕ) → AllPassing (is_quoted_byte quote) own → split_quote (own ++ quote ∷ rest) (quote_at quote 0 (own ++ quote ∷ rest)) ≡ Some (own, rest)
 quote_again quote own rest all =
     let text = own ++ quote ∷ rest in
     let at : 0 + length own ≡ length own = omega arith in
     ap (split_quote text) (quote_back quote 0 own rest all ∙ ap (λ (k : ℕ). Some k) at)
-    ∙ ap (λ (l : List ℕ). some_pair l (drop (length own + 1) text)) (take_mid own (quote ∷ rest))
+    ∙ ap (λ (l : List ℕ). some_pair l (drop (length own + 1) text)) (take-append_seam own (quote ∷ rest))
     ∙ ap (λ (l : List ℕ). some_pair own l) (next own rest quote)
 
 -- the longest front that passes a test
-front_split : (p : ℕ → Bool) (text : List ℕ) → AllPass p (take (prefix_len p text) text) × (text ≡ take (prefix_len p text) text ++ drop (prefix_len p text) text)
+front_split : (p : ℕ → Bool) (text : List ℕ) → AllPassing p (take (prefix_len p text) text) × (text ≡ take (prefix_len p text) text ++ drop (prefix_len p text) text)
 front_split p [] = (tt, refl)
 front_split p (b ∷ bs) = by (p b) refl (front_split p bs)
   where
-    by : (d : Bool) → p b ≡ d → AllPass p (take (prefix_len p bs) bs) × (bs ≡ take (prefix_len p bs) bs ++ drop (prefix_len p bs) bs) →
-        AllPass p (take (cond d (1 + prefix_len p bs) 0) (b ∷ bs)) × (b ∷ bs ≡ take (cond d (1 + prefix_len p bs) 0) (b ∷ bs) ++ drop (cond d (1 + prefix_len p bs) 0) (b ∷ bs))
+    by : (d : Bool) → p b ≡ d → AllPassing p (take (prefix_len p bs) bs) × (bs ≡ take (prefix_len p bs) bs ++ drop (prefix_len p bs) bs) →
+        AllPassing p (take (cond d (1 + prefix_len p bs) 0) (b ∷ bs)) × (b ∷ bs ≡ take (cond d (1 + prefix_len p bs) 0) (b ∷ bs) ++ drop (cond d (1 + prefix_len p bs) 0) (b ∷ bs))
     by true e rest =
         let more : suc (prefix_len p bs) ≡ 1 + prefix_len p bs = omega arith in
-        subst (λ (k : ℕ). AllPass p (take k (b ∷ bs)) × (b ∷ bs ≡ take k (b ∷ bs) ++ drop k (b ∷ bs))) more
+        subst (λ (k : ℕ). AllPassing p (take k (b ∷ bs)) × (b ∷ bs ≡ take k (b ∷ bs) ++ drop k (b ∷ bs))) more
         ((e, rest.0), ap (λ (l : List ℕ). b ∷ l) rest.1)
     by false e rest = (tt, refl)
 
@@ -204,7 +182,7 @@ some_split p text parts = by (prefix_len p text == 0) refl
         subst (Split p text) same
         (record { all = front.0; some = omega (arith, length_front (prefix_len p text) text (front_len p text), not_zero (prefix_len p text) e); whole = front.1 })
 
-front_back : (p : ℕ → Bool) (own rest : List ℕ) → AllPass p own → BeginsWithout p rest → prefix_len p (own ++ rest) ≡ length own
+front_back : (p : ℕ → Bool) (own rest : List ℕ) → AllPassing p own → BeginsWithout p rest → prefix_len p (own ++ rest) ≡ length own
 front_back p [] [] all h = refl
 front_back p [] (b ∷ bs) all h = ap (λ (d : Bool). cond d (1 + prefix_len p bs) 0) h
 front_back p (b ∷ bs) rest all h =
@@ -215,12 +193,12 @@ drop_front : (xs ys : List ℕ) → drop (length xs) (xs ++ ys) ≡ ys
 drop_front [] ys = refl
 drop_front (x ∷ xs) ys = drop_front xs ys
 
-some_again : (p : ℕ → Bool) (own rest : List ℕ) → AllPass p own → 1 ≤ length own → BeginsWithout p rest → split_some (prefix_len p (own ++ rest)) (own ++ rest) ≡ Some (own, rest)
+some_again : (p : ℕ → Bool) (own rest : List ℕ) → AllPassing p own → 1 ≤ length own → BeginsWithout p rest → split_some (prefix_len p (own ++ rest)) (own ++ rest) ≡ Some (own, rest)
 some_again p own rest all some h =
     let text = own ++ rest in
     ap (λ (k : ℕ). split_some k text) (front_back p own rest all h)
     ∙ ap (λ (d : Bool). cond d None (some_pair (take (length own) text) (drop (length own) text))) (is_not_zero (length own) some)
-    ∙ ap (λ (l : List ℕ). some_pair l (drop (length own) text)) (take_mid own rest)
+    ∙ ap (λ (l : List ℕ). some_pair l (drop (length own) text)) (take-append_seam own rest)
     ∙ ap (λ (l : List ℕ). some_pair own l) (drop_front own rest)
 
 -- keys
@@ -324,7 +302,7 @@ spaces_read (b ∷ bs) rest h = by (b == 32) refl h
     by true e h =
         let same : behind_spaces bs ≡ rest = cc in
         subst (SpacesRead (b ∷ bs)) same
-        (record { spaces = suc (indentation bs); some = omega arith; free = spaces_end bs; whole = ap (λ (k : ℕ). k ∷ bs) (same_number b 32 e) ∙ ap (λ (l : List ℕ). 32 ∷ l) (spaces_join bs) })
+        (record { spaces = suc (indentation bs); some = omega arith; free = spaces_end bs; whole = ap (λ (k : ℕ). k ∷ bs) (eqb-true b 32 e) ∙ ap (λ (l : List ℕ). 32 ∷ l) (spaces_join bs) })
     by false e h = absurd cc
 
 colon_read : (text rest : List ℕ) → behind_colon text ≡ Some rest → ColonRead text rest
@@ -334,7 +312,7 @@ colon_read (b ∷ bs) rest h = by (b == 58) refl h
     by : (d : Bool) → (b == 58) ≡ d → cond d (behind_some_spaces bs) None ≡ Some rest → ColonRead (b ∷ bs) rest
     by true e h =
         let spaces = spaces_read bs rest h in
-        record { spaces = spaces.spaces; some = spaces.some; free = spaces.free; whole = ap (λ (k : ℕ). k ∷ bs) (same_number b 58 e) ∙ ap (λ (l : List ℕ). 58 ∷ l) spaces.whole }
+        record { spaces = spaces.spaces; some = spaces.some; free = spaces.free; whole = ap (λ (k : ℕ). k ∷ bs) (eqb-true b 58 e) ∙ ap (λ (l : List ℕ). 58 ∷ l) spaces.whole }
     by false e h = absurd cc
 
 colon_again : (n : ℕ) (rest : List ℕ) → 1 ≤ n → BeginsWithout is_space rest → behind_colon (58 ∷ (replicate n 32 ++ rest)) ≡ Some rest
@@ -349,16 +327,16 @@ record EndRead (text : List ℕ) : Type 0 where
 
 hash_first : (bytes : List ℕ) → begins_with_hash bytes ≡ true → bytes ≡ 35 ∷ drop 1 bytes
 hash_first [] e = absurd cc
-hash_first (b ∷ bs) e = ap (λ (k : ℕ). k ∷ bs) (same_number b 35 e)
+hash_first (b ∷ bs) e = ap (λ (k : ℕ). k ∷ bs) (eqb-true b 35 e)
 
 end_read : (text : List ℕ) → ends_entry text ≡ true → EndRead text
 end_read [] h = record { comment = None; form = tt; whole = refl }
 end_read (b ∷ bs) h =
-    let both = both_true (b == 32) (begins_with_hash (behind_spaces bs)) h in
+    let both = and_parts (b == 32) (begins_with_hash (behind_spaces bs)) h in
     record {
       comment = Some (record { spaces = suc (indentation bs); inner = drop 1 (behind_spaces bs) });
       form = omega arith;
-      whole = ap (λ (k : ℕ). k ∷ bs) (same_number b 32 both.0) ∙ ap (λ (l : List ℕ). 32 ∷ l) (spaces_join bs ∙ ap (λ (l : List ℕ). replicate (indentation bs) 32 ++ l) (hash_first (behind_spaces bs) both.1));
+      whole = ap (λ (k : ℕ). k ∷ bs) (eqb-true b 32 both.0) ∙ ap (λ (l : List ℕ). 32 ∷ l) (spaces_join bs ∙ ap (λ (l : List ℕ). replicate (indentation bs) 32 ++ l) (hash_first (behind_spaces bs) both.1));
     }
 
 end_again : (comment : Option Comment) → IsComment comment → ends_entry (comment_text comment) ≡ true
