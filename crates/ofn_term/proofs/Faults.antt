@@ -194,7 +194,8 @@ says_step most depth next first first' token tokens (Some (Unclosed offset)) l c
 says_step most depth next first first' token tokens (Some (Lex offset)) l count is says = says
 says_step most depth next first first' token tokens (Some OutOfMemory) l count is says = says
 
-first_kept : (depth first start : ℕ) → 0 < depth → first_open depth first start ≡ first
+-- the first open bracket stays while one is open
+pub first_kept : (depth first start : ℕ) → 0 < depth → first_open depth first start ≡ first
 first_kept depth first start some = grind (arith, nat_tests)
 
 first_new : (depth first start : ℕ) → depth ≡ 0 → first_open depth first start ≡ start
