@@ -8,7 +8,8 @@ use Rattle.ofn_term.specs.Words.{is_open, is_close}
 use Rattle.ofn_term.specs.Brackets.{opens, closes, LeaveOpen, StayWithin, IsBracketAt, IsUnopened, IsTooDeep, IsUnclosed}
 use Rattle.ofn_term.specs.Inside.PieceReading.{first_open, bracket_fault}
 use Rattle.ofn_term.proofs.Closing.{fault_at_open, closing_is_not_open}
-use Rattle.ofn_term.proofs.Faults.{first_kept, Within, Never, opened, closed, open_is_not_closing, opened_one}
+use Rattle.ofn_term.proofs.FaultSteps.{Within, Never, opened, closed, open_is_not_closing}
+use Rattle.ofn_term.proofs.Faults.{first_kept, opened_one}
 
 -- behind one more token
 tail_paired : (depth next : ℕ) (token : Token) (tokens : List Token) → depth + opened token ≡ next + closed token →
