@@ -30,13 +30,13 @@ HasFault text most (fault.TooDeep offset) = FailsIn text (IsTooDeep most) offset
 HasFault text most fault.OutOfMemory = ⊥
 
 -- memory ran out
-abbrev pub ran_out : TermFault → Bool
-ran_out fault.OutOfMemory = true
-ran_out _ = false
+abbrev pub term_ran_out : TermFault → Bool
+term_ran_out fault.OutOfMemory = true
+term_ran_out _ = false
 
 -- the first fault of the text, unless memory ran out
 abbrev pub IsFirstFault : List ℕ → ℕ → TermFault → Type 0
-IsFirstFault text most found = OrOutOfMemory ran_out (HasFault text most) found
+IsFirstFault text most found = OrOutOfMemory term_ran_out (HasFault text most) found
 
 -- the text has items or a first fault
 pub data HasAnswer (text : List ℕ) (most : ℕ) : Type 0 where

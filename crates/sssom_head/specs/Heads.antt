@@ -12,13 +12,13 @@ use Rattle.sssom_head.specs.BuiltIn.{with_built_in}
 use Rattle.sssom_head.specs.Headers.{IsFirstFault, IsSound}
 
 -- memory ran out
-abbrev pub ran_out : HeadFault → Bool
-ran_out OutOfMemory = true
-ran_out _ = false
+abbrev pub head_ran_out : HeadFault → Bool
+head_ran_out OutOfMemory = true
+head_ran_out _ = false
 
 -- the fault is the expected one, unless memory ran out
 abbrev pub IsFaultOf : Answer → HeadFault → Type 0
-IsFaultOf expected fault = OrOutOfMemory ran_out (λ found. expected ≡ Err found) fault
+IsFaultOf expected fault = OrOutOfMemory head_ran_out (λ found. expected ≡ Err found) fault
 
 abbrev pub IsStep : Answer → Result MapPlace HeadFault → Prefixes → Type 0
 IsStep expected (Ok place) prefixes = expected ≡ at_place place prefixes
@@ -59,4 +59,4 @@ pub record IsHeadOf (bytes : List ℕ) (head : Head) : Type 0 where
 -- what the lines of a header say, unless memory ran out
 abbrev pub IsHeader : List ℕ → Result Head HeadFault → Type 0
 IsHeader bytes (Ok head) = IsHeadOf bytes head
-IsHeader bytes (Err fault) = OrOutOfMemory ran_out (IsFirstFault (contents_of bytes)) fault
+IsHeader bytes (Err fault) = OrOutOfMemory head_ran_out (IsFirstFault (contents_of bytes)) fault

@@ -6,7 +6,7 @@ use Rattle.ofn_lex.specs.Texts.{HasTokens}
 use Rattle.ofn_term.specs.declared.fault.TermFault.{TermFault}
 use Rattle.ofn_term.specs.declared.fault.TermFault.TheVariants as fault
 use Rattle.ofn_term.specs.Words.{is_open, is_close, is_word, begins_open}
-use Rattle.ofn_term.specs.Texts.{ran_out}
+use Rattle.ofn_term.specs.Texts.{term_ran_out}
 use Rattle.ofn_term.specs.Writing.{Piece, opening, closing, head, atom}
 
 -- a word directly before an opening bracket is a head
@@ -42,7 +42,7 @@ begins_close (token ∷ tokens) = is_close token
 
 -- the fault is this one, unless memory ran out
 abbrev pub IsFaultUnlessMemory : Option TermFault → TermFault → Type 0
-IsFaultUnlessMemory expected found = OrOutOfMemory ran_out (λ other. expected ≡ Some other) found
+IsFaultUnlessMemory expected found = OrOutOfMemory term_ran_out (λ other. expected ≡ Some other) found
 
 -- the text has tokens up to an offset at which none begins
 abbrev pub HasLexFault : List ℕ → TermFault → Type 0
@@ -51,4 +51,4 @@ HasLexFault text _ = ⊥
 
 -- why a text has no tokens to its end, unless memory ran out
 abbrev pub IsLexFault : List ℕ → TermFault → Type 0
-IsLexFault text found = OrOutOfMemory ran_out (HasLexFault text) found
+IsLexFault text found = OrOutOfMemory term_ran_out (HasLexFault text) found
