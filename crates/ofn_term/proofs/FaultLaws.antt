@@ -8,7 +8,8 @@ use Rattle.ofn_term.specs.Words.{is_open, is_close}
 use Rattle.ofn_term.specs.Brackets.{opens, closes, LeaveOpen, StayWithin, IsBracketAt, IsUnopened, IsTooDeep, IsUnclosed}
 use Rattle.ofn_term.specs.Inside.PieceReading.{first_open, bracket_fault}
 use Rattle.ofn_term.proofs.Closing.{fault_at_open, closing_is_not_open}
-use Rattle.ofn_term.proofs.Faults.{Within, Never, opened, closed, open_is_not_closing, opened_one}
+use Rattle.ofn_term.proofs.FaultSteps.{Within, Never, opened, closed, open_is_not_closing}
+use Rattle.ofn_term.proofs.Faults.{first_kept, opened_one}
 
 -- behind one more token
 tail_paired : (depth next : ℕ) (token : Token) (tokens : List Token) → depth + opened token ≡ next + closed token →
@@ -43,9 +44,6 @@ record Passes (most depth first : ℕ) (token : Token) : Type 0 where
   count : depth + opened token ≡ next + closed token
   same : (tokens : List Token) → bracket_fault most depth first (token ∷ tokens) ≡ bracket_fault most next first' tokens
   kept : 0 < depth → first' ≡ first
-
-first_kept : (depth first start : ℕ) → 0 < depth → first_open depth first start ≡ first
-first_kept depth first start some = grind (arith, nat_tests)
 
 pub fault_at_closing : (most depth first : ℕ) (token : Token) (tokens : List Token) → is_open token ≡ false → is_close token ≡ true → 0 < depth →
     bracket_fault most depth first (token ∷ tokens) ≡ bracket_fault most (depth - 1) first tokens

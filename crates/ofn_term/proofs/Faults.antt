@@ -1,136 +1,17 @@
 -- The first fault of brackets, and where it stands by how many brackets open and close before it.
-use Rattle.std.proofs.Common.{◌≡◌, ◌≤◌, ◌<◌, ℕ, zero, suc, ◌+◌, ◌-◌, Bool, true, false, cond, ◌⊎◌, inl, inr, List, [], ◌∷◌, ◌++◌, refl, ap, sym, subst, ◌∙◌, arith}
+use Rattle.std.proofs.Common.{◌≡◌, ◌≤◌, ◌<◌, ℕ, zero, suc, ◌+◌, ◌-◌, Bool, true, false, cond, ◌⊎◌, inl, inr, List, [], ◌∷◌, refl, ap, sym, ◌∙◌, arith}
 use Rattle.std.specs.Prelude.{Option, Some, None, ◌==◌, nat_lt}
 use Rattle.std.proofs.lemmas.Bool.Decides.{nat_tests}
 use Rattle.ofn_lex.specs.declared.token.Token.{Token}
-use Rattle.ofn_lex.specs.declared.token.TokenKind.{TokenKind}
-use Rattle.ofn_lex.specs.declared.token.TokenKind.TheVariants.{Open, Close, Equals, FullIri, Quoted, Lang, Carets, Run}
 use Rattle.ofn_term.specs.declared.fault.TermFault.{TermFault}
 use Rattle.ofn_term.specs.declared.fault.TermFault.TheVariants.{Lex, Unopened, Unclosed, TooDeep, OutOfMemory}
-use Rattle.ofn_term.specs.Words.{is_open_kind, is_close_kind, is_open, is_close}
+use Rattle.ofn_term.specs.Words.{is_open, is_close}
 use Rattle.ofn_term.specs.Brackets.{opens, closes, LeaveOpen, StayWithin, IsBracketAt, IsUnclosed}
 use Rattle.ofn_term.specs.Inside.PieceReading.{first_open, bracket_fault}
 use Rattle.ofn_term.proofs.Closing.{closing_is_not_open}
+use Rattle.ofn_term.proofs.FaultSteps.{open_is_not_closing, Within, At, Never, opened, closed, none_within, step_within, step_never, step_at, first_at}
 
-pub open_is_not_closing : (kind : TokenKind) → is_open_kind kind ≡ true → is_close_kind kind ≡ false
-open_is_not_closing Open e = refl
-open_is_not_closing Close e = sym e
-open_is_not_closing Equals e = refl
-open_is_not_closing FullIri e = refl
-open_is_not_closing Quoted e = refl
-open_is_not_closing Lang e = refl
-open_is_not_closing Carets e = refl
-open_is_not_closing Run e = refl
-
--- as in StayWithin, where so many brackets are open before the tokens
-pub record Within (most depth : ℕ) (tokens : List Token) : Type 0 where
-  pub paired : (front rest : List Token) → tokens ≡ front ++ rest → closes front ≤ depth + opens front
-  pub shallow : (front rest : List Token) → tokens ≡ front ++ rest → depth + opens front ≤ closes front + most
-
--- as in IsBracketAt
-pub record At (most depth : ℕ) (tokens : List Token) (passes : Token → Bool) (level offset : ℕ) : Type 0 where
-  front : List Token
-  bracket : Token
-  rest : List Token
-  whole : tokens ≡ front ++ bracket ∷ rest
-  before : Within most depth front
-  level_there : depth + opens front ≡ closes front + level
-  test : passes bracket ≡ true
-  place : bracket.start ≡ offset
-
--- one of the brackets that are open before the tokens stays open
-abbrev pub Never : ℕ → List Token → Type 0
-Never depth tokens = (front rest : List Token) → tokens ≡ front ++ rest → closes front < depth + opens front
-
-pub tail_of : (x y : Token) (xs ys : List Token) → x ∷ xs ≡ y ∷ ys → xs ≡ ys
-tail_of x y xs ys e = cc
-
-head_of : (x y : Token) (xs ys : List Token) → x ∷ xs ≡ y ∷ ys → x ≡ y
-head_of x y xs ys e = cc
-
--- one more token in front
-abbrev pub opened : Token → ℕ
-opened token = cond (is_open token) 1 0
-
-abbrev pub closed : Token → ℕ
-closed token = cond (is_close token) 1 0
-
-pub none_paired : (depth : ℕ) (front rest : List Token) → [] ≡ front ++ rest → closes front ≤ depth + opens front
-none_paired depth [] rest e = omega arith
-none_paired depth (x ∷ front) rest e = cc
-
-none_shallow : (most depth : ℕ) → depth ≤ most → (front rest : List Token) → [] ≡ front ++ rest → depth + opens front ≤ closes front + most
-none_shallow most depth l [] rest e = omega arith
-none_shallow most depth l (x ∷ front) rest e = cc
-
-none_within : (most depth : ℕ) → depth ≤ most → Within most depth []
-none_within most depth l = record { paired = none_paired depth; shallow = none_shallow most depth l }
-
-pub step_paired : (depth next : ℕ) (token : Token) (tokens : List Token) → depth + opened token ≡ next + closed token →
-    ((front rest : List Token) → tokens ≡ front ++ rest → closes front ≤ next + opens front) →
-    (front rest : List Token) → token ∷ tokens ≡ front ++ rest → closes front ≤ depth + opens front
-step_paired depth next token tokens count behind [] rest e = omega arith
-step_paired depth next token tokens count behind (x ∷ front) rest e =
-    let same = head_of token x tokens (front ++ rest) e in
-    let h : closes front ≤ next + opens front = behind front rest (tail_of token x tokens (front ++ rest) e) in
-    let here : closed token + closes front ≤ depth + (opened token + opens front) = omega arith in
-    subst (λ (t : Token). closed t + closes front ≤ depth + (opened t + opens front)) same here
-
-step_shallow : (most depth next : ℕ) (token : Token) (tokens : List Token) → depth ≤ most → depth + opened token ≡ next + closed token →
-    ((front rest : List Token) → tokens ≡ front ++ rest → next + opens front ≤ closes front + most) →
-    (front rest : List Token) → token ∷ tokens ≡ front ++ rest → depth + opens front ≤ closes front + most
-step_shallow most depth next token tokens l count behind [] rest e = omega arith
-step_shallow most depth next token tokens l count behind (x ∷ front) rest e =
-    let same = head_of token x tokens (front ++ rest) e in
-    let h : next + opens front ≤ closes front + most = behind front rest (tail_of token x tokens (front ++ rest) e) in
-    let here : depth + (opened token + opens front) ≤ closed token + closes front + most = omega arith in
-    subst (λ (t : Token). depth + (opened t + opens front) ≤ closed t + closes front + most) same here
-
-step_within : (most depth next : ℕ) (token : Token) (tokens : List Token) → depth ≤ most → depth + opened token ≡ next + closed token →
-    Within most next tokens → Within most depth (token ∷ tokens)
-step_within most depth next token tokens l count behind = record {
-  paired = step_paired depth next token tokens count behind.paired;
-  shallow = step_shallow most depth next token tokens l count behind.shallow;
-}
-
-pub step_never : (depth next : ℕ) (token : Token) (tokens : List Token) → 0 < depth → depth + opened token ≡ next + closed token →
-    Never next tokens → Never depth (token ∷ tokens)
-step_never depth next token tokens some count behind [] rest e = omega arith
-step_never depth next token tokens some count behind (x ∷ front) rest e =
-    let same = head_of token x tokens (front ++ rest) e in
-    let h : closes front < next + opens front = behind front rest (tail_of token x tokens (front ++ rest) e) in
-    let here : closed token + closes front < depth + (opened token + opens front) = omega arith in
-    subst (λ (t : Token). closed t + closes front < depth + (opened t + opens front)) same here
-
-step_at : (most depth next : ℕ) (token : Token) (tokens : List Token) (passes : Token → Bool) (level offset : ℕ) → depth ≤ most → depth + opened token ≡ next + closed token →
-    At most next tokens passes level offset → At most depth (token ∷ tokens) passes level offset
-step_at most depth next token tokens passes level offset l count at =
-    let there = at.level_there in
-    let level_here : depth + (opened token + opens at.front) ≡ closed token + closes at.front + level = omega arith in
-    record {
-      front = token ∷ at.front;
-      bracket = at.bracket;
-      rest = at.rest;
-      whole = ap (λ (ts : List Token). token ∷ ts) at.whole;
-      before = step_within most depth next token at.front l count at.before;
-      level_there = level_here;
-      test = at.test;
-      place = at.place;
-    }
-
-first_at : (most depth : ℕ) (token : Token) (tokens : List Token) (passes : Token → Bool) (level offset : ℕ) → depth ≤ most → depth ≡ level → passes token ≡ true → token.start ≡ offset →
-    At most depth (token ∷ tokens) passes level offset
-first_at most depth token tokens passes level offset l e test place = record {
-  front = [];
-  bracket = token;
-  rest = tokens;
-  whole = refl;
-  before = none_within most depth l;
-  level_there = omega arith;
-  test = test;
-  place = place;
-}
-
+-- the first open bracket has no partner: it is the one at the offset, or one of the tokens
 pub record Unpaired (most depth : ℕ) (tokens : List Token) (offset : ℕ) : Type 0 where
   at : At most depth tokens is_open 0 offset
   never : LeaveOpen at.rest
@@ -194,7 +75,8 @@ says_step most depth next first first' token tokens (Some (Unclosed offset)) l c
 says_step most depth next first first' token tokens (Some (Lex offset)) l count is says = says
 says_step most depth next first first' token tokens (Some OutOfMemory) l count is says = says
 
-first_kept : (depth first start : ℕ) → 0 < depth → first_open depth first start ≡ first
+-- the first open bracket stays while one is open
+pub first_kept : (depth first start : ℕ) → 0 < depth → first_open depth first start ≡ first
 first_kept depth first start some = grind (arith, nat_tests)
 
 first_new : (depth first start : ℕ) → depth ≡ 0 → first_open depth first start ≡ start

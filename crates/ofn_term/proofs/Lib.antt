@@ -1,3 +1,4 @@
+pub mod FaultSteps
 pub mod Pushing
 pub mod Closing
 pub mod Standing

@@ -6,7 +6,8 @@ use Rattle.ofn_lex.specs.declared.token.Token.{Token}
 use Rattle.ofn_term.specs.Words.{is_open, is_close}
 use Rattle.ofn_term.specs.Brackets.{opens, closes, HasPartner, IsUnclosed}
 use Rattle.ofn_term.proofs.Closing.{closing_is_not_open}
-use Rattle.ofn_term.proofs.Faults.{opened, closed, open_is_not_closing, opened_one, none_paired, step_paired}
+use Rattle.ofn_term.proofs.FaultSteps.{opened, closed, open_is_not_closing, none_paired, step_paired}
+use Rattle.ofn_term.proofs.Faults.{opened_one}
 use Rattle.ofn_term.proofs.FaultLaws.{no_one, opens-append, closes-append}
 
 -- as in HasPartner, of the innermost of so many brackets that are open before the tokens and one more

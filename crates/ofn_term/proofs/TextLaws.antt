@@ -16,7 +16,7 @@ use Rattle.ofn_term.specs.Texts.{HasItems, HasFault, IsFirstFault, HasAnswer, re
 use Rattle.ofn_term.specs.Writing.{Piece, opening, closing, head, atom, token_of, pieces, tokens_of, begins_group, AreInPlace, StandFor}
 use Rattle.ofn_term.specs.Inside.PieceReading.{piece_of, pieces_of, bracket_fault, first_open, IsFaultUnlessMemory}
 use Rattle.ofn_term.proofs.Faults.{IsFaultOf, fault_said}
-use Rattle.ofn_term.proofs.FaultLaws.{unopened_found, too_deep_found, unclosed_found, none_found}
+use Rattle.ofn_term.proofs.FaultLaws.{no_one, unopened_found, too_deep_found, unclosed_found, none_found}
 use Rattle.ofn_term.proofs.OneList.{one_list, ArePaired, AreBeforeGroups, some_list, openings, closings, even}
 use Rattle.ofn_term.proofs.Standing.{are_short, tokens_read, read_in_place, written_then_read, word_is_run}
 
@@ -158,9 +158,6 @@ neither : (v w : Bool) → (v || w) ≡ false → (v ≡ false) × (w ≡ false)
 neither true w e = cc
 neither false w e = (refl, e)
 
-none_of : (b : Bool) → b ≡ false → let n : ℕ = cond b 1 0 in n ≡ 0
-none_of b e = ap (λ (v : Bool). let n : ℕ = cond v 1 0 in n) e
-
 opens_written : (text : List ℕ) (ps : List Piece) → AreInPlace text ps → opens (map token_of ps) ≡ openings ps
 opens_written text [] placed = refl
 opens_written text (opening start ∷ ps) placed = let h : opens (map token_of ps) ≡ openings ps = opens_written text ps placed in omega arith
@@ -170,7 +167,7 @@ opens_written text (head token ∷ ps) placed =
     omega (arith, no_open_kind token.kind (word_is_run token.kind _ _ placed.0))
 opens_written text (atom token ∷ ps) placed =
     let h : opens (map token_of ps) ≡ openings ps = opens_written text ps placed.2 in
-    omega (arith, none_of (is_open token) (neither (is_open token) (is_close token) placed.0).0)
+    omega (arith, no_one (is_open token) (neither (is_open token) (is_close token) placed.0).0)
 
 closes_written : (text : List ℕ) (ps : List Piece) → AreInPlace text ps → closes (map token_of ps) ≡ closings ps
 closes_written text [] placed = refl
@@ -181,7 +178,7 @@ closes_written text (head token ∷ ps) placed =
     omega (arith, no_close_kind token.kind (word_is_run token.kind _ _ placed.0))
 closes_written text (atom token ∷ ps) placed =
     let h : closes (map token_of ps) ≡ closings ps = closes_written text ps placed.2 in
-    omega (arith, none_of (is_close token) (neither (is_open token) (is_close token) placed.0).1)
+    omega (arith, no_one (is_close token) (neither (is_open token) (is_close token) placed.0).1)
 
 stand_even : (text : List ℕ) (items : List Item) (tokens : List Token) → StandFor text items tokens → opens tokens ≡ closes tokens
 stand_even text items tokens stand =

@@ -1,5 +1,6 @@
 -- What a text has: items, or a first fault.
-use Rattle.std.specs.Prelude.{ℕ, List, Some, None, ⊤}
+use Rattle.std.specs.Prelude.{ℕ, Bool, true, false, List, Option, Some, None, IfSome}
+use Rattle.byte_words.specs.Faults.{OrOutOfMemory}
 use Rattle.std.specs.Str.{IsCharBoundary}
 use Rattle.ofn_lex.specs.declared.token.Token.{Token}
 use Rattle.ofn_lex.specs.Texts.{HasTokens}
@@ -28,10 +29,14 @@ HasFault text most (fault.Unclosed offset) = FailsIn text (IsUnclosed most) offs
 HasFault text most (fault.TooDeep offset) = FailsIn text (IsTooDeep most) offset
 HasFault text most fault.OutOfMemory = ⊥
 
--- the same, unless memory ran out
+-- memory ran out
+abbrev pub term_ran_out : TermFault → Bool
+term_ran_out fault.OutOfMemory = true
+term_ran_out _ = false
+
+-- the first fault of the text, unless memory ran out
 abbrev pub IsFirstFault : List ℕ → ℕ → TermFault → Type 0
-IsFirstFault text most fault.OutOfMemory = ⊤
-IsFirstFault text most other = HasFault text most other
+IsFirstFault text most found = OrOutOfMemory term_ran_out (HasFault text most) found
 
 -- the text has items or a first fault
 pub data HasAnswer (text : List ℕ) (most : ℕ) : Type 0 where
@@ -42,10 +47,14 @@ pub data HasAnswer (text : List ℕ) (most : ℕ) : Type 0 where
 abbrev pub IsOfCharacters : List ℕ → Token → Type 0
 IsOfCharacters text token = IsCharBoundary text token.start × IsCharBoundary text token.end
 
--- and so does a fault
+-- the offset that a fault names
+abbrev pub offset_of : TermFault → Option ℕ
+offset_of (fault.Lex offset) = Some offset
+offset_of (fault.Unopened offset) = Some offset
+offset_of (fault.Unclosed offset) = Some offset
+offset_of (fault.TooDeep offset) = Some offset
+offset_of fault.OutOfMemory = None
+
+-- a fault names an offset where a character of the text begins, or its end
 abbrev pub IsAtCharacter : List ℕ → TermFault → Type 0
-IsAtCharacter text (fault.Lex offset) = IsCharBoundary text offset
-IsAtCharacter text (fault.Unopened offset) = IsCharBoundary text offset
-IsAtCharacter text (fault.Unclosed offset) = IsCharBoundary text offset
-IsAtCharacter text (fault.TooDeep offset) = IsCharBoundary text offset
-IsAtCharacter text fault.OutOfMemory = ⊤
+IsAtCharacter text found = IfSome (offset_of found) (IsCharBoundary text)

@@ -1,18 +1,16 @@
 -- A text is read as a decimal number exactly where it is spelled as that number.
 use Rattle.std.proofs.Common.{◌≡◌, ◌∙◌, ℕ, ◌+◌, ◌≤◌, Bool, true, false, cond, ◌&&◌, List, [], ◌∷◌, ◌++◌, length, refl, ap, sym, subst, arith}
-use Rattle.std.specs.Prelude.{⊤, Option, Some, None, ◌==◌}
+use Rattle.std.specs.Prelude.{Option, Some, None, ◌==◌}
+use Rattle.std.proofs.lemmas.Bool.{and_parts, eqb-true}
 use Rattle.std.proofs.lemmas.Bool.Decides.{nat_tests}
+use Rattle.byte_words.specs.Lists.{BeginsWithout}
 use Rattle.rank_order.specs.Decimal.{is_digit, AreDigits, is_exponent_letter, Sign, Exponent, Decimal, sign_text, fraction_text, exponent_text, decimal_text, fraction_digits, IsExponent, IsDecimal}
 use Rattle.rank_order.specs.DecimalTexts.{front_digits, past_digits, fraction_in, past_fraction, are_digits, is_some_list, exponent_with, signed_in, exponent_in, decimal_with, decimal_of}
 use Rattle.rank_order.proofs.DigitLaws.{are_front_digits}
 
-same_number : (a b : ℕ) → (a == b) ≡ true → a ≡ b
-same_number a b e = grind (arith, nat_tests)
-
 -- no digit comes first
 abbrev pub BeginsNoDigit : List ℕ → Type 0
-BeginsNoDigit [] = ⊤
-BeginsNoDigit (b ∷ bs) = is_digit b ≡ false
+BeginsNoDigit bytes = BeginsWithout is_digit bytes
 
 pub front_append : (digits rest : List ℕ) → AreDigits digits → BeginsNoDigit rest → front_digits (digits ++ rest) ≡ digits
 front_append [] [] h k = refl
@@ -53,13 +51,9 @@ all_digits : (digits : List ℕ) → AreDigits digits → are_digits digits ≡ 
 all_digits [] h = refl
 all_digits (b ∷ bs) h = ap (λ (d : Bool). d && are_digits bs) h.0 ∙ all_digits bs h.1
 
-both_true : (a b : Bool) → (a && b) ≡ true → (a ≡ true) × (b ≡ true)
-both_true true b e = (refl, e)
-both_true false b e = absurd cc
-
 digits_all : (digits : List ℕ) → are_digits digits ≡ true → AreDigits digits
 digits_all [] e = tt
-digits_all (b ∷ bs) e = let both = both_true (is_digit b) (are_digits bs) e in (both.0, digits_all bs both.1)
+digits_all (b ∷ bs) e = let both = and_parts (is_digit b) (are_digits bs) e in (both.0, digits_all bs both.1)
 
 -- the fraction is read back, and what follows it
 fraction_back : (f : Option (List ℕ)) (e : Option Exponent) → AreDigits (fraction_digits f) → IsExponent e →
@@ -123,7 +117,7 @@ fraction_is [] = (tt, refl)
 fraction_is (b ∷ bs) = by (b == 46) refl
   where
     by : (d : Bool) → (b == 46) ≡ d → AreDigits (fraction_digits (cond d (Some (front_digits bs)) None)) × (b ∷ bs ≡ fraction_text (cond d (Some (front_digits bs)) None) ++ cond d (past_digits bs) (b ∷ bs))
-    by true e = (are_front_digits bs, ap (λ (k : ℕ). k ∷ bs) (same_number b 46 e) ∙ ap (λ (l : List ℕ). 46 ∷ l) (sym (parts_join bs)))
+    by true e = (are_front_digits bs, ap (λ (k : ℕ). k ∷ bs) (eqb-true b 46 e) ∙ ap (λ (l : List ℕ). 46 ∷ l) (sym (parts_join bs)))
     by false e = (tt, refl)
 
 not_empty : (digits : List ℕ) → is_some_list digits ≡ true → 1 ≤ length digits
@@ -139,7 +133,7 @@ exponent_with_is letter sign digits e l = by (is_some_list digits && are_digits 
 
     by : (d : Bool) → (is_some_list digits && are_digits digits) ≡ d → cond d (Some (Some whole)) None ≡ Some e → IsExponent e × (letter ∷ (sign_text sign ++ digits) ≡ exponent_text e)
     by true t h =
-        let both = both_true (is_some_list digits) (are_digits digits) t in
+        let both = and_parts (is_some_list digits) (are_digits digits) t in
         let same : Some whole ≡ e = cc in
         subst (λ (x : Option Exponent). IsExponent x × (letter ∷ (sign_text sign ++ digits) ≡ exponent_text x)) same ((l, digits_all digits both.1, not_empty digits both.0), refl)
     by false t h = absurd cc
@@ -151,13 +145,13 @@ signed_is letter (b ∷ bs) e l h = first (b == 43) refl h
     second : (d : Bool) → (b == 45) ≡ d → cond d (exponent_with letter Sign.minus bs) (exponent_with letter Sign.unsigned (b ∷ bs)) ≡ Some e → IsExponent e × (letter ∷ b ∷ bs ≡ exponent_text e)
     second true t h =
         let r = exponent_with_is letter Sign.minus bs e l h in
-        (r.0, ap (λ (k : ℕ). letter ∷ k ∷ bs) (same_number b 45 t) ∙ r.1)
+        (r.0, ap (λ (k : ℕ). letter ∷ k ∷ bs) (eqb-true b 45 t) ∙ r.1)
     second false t h = exponent_with_is letter Sign.unsigned (b ∷ bs) e l h
 
     first : (d : Bool) → (b == 43) ≡ d → cond d (exponent_with letter Sign.plus bs) (cond (b == 45) (exponent_with letter Sign.minus bs) (exponent_with letter Sign.unsigned (b ∷ bs))) ≡ Some e → IsExponent e × (letter ∷ b ∷ bs ≡ exponent_text e)
     first true t h =
         let r = exponent_with_is letter Sign.plus bs e l h in
-        (r.0, ap (λ (k : ℕ). letter ∷ k ∷ bs) (same_number b 43 t) ∙ r.1)
+        (r.0, ap (λ (k : ℕ). letter ∷ k ∷ bs) (eqb-true b 43 t) ∙ r.1)
     first false t h = second (b == 45) refl h
 
 exponent_is : (rest : List ℕ) (e : Option Exponent) → exponent_in rest ≡ Some e → IsExponent e × (rest ≡ exponent_text e)

@@ -1,32 +1,28 @@
 -- Fronts of digits.
-use Rattle.std.proofs.Common.{◌≡◌, ℕ, ◌≤◌, Bool, true, false, cond, List, [], ◌∷◌, length, take, drop, refl, ap, arith}
+use Rattle.std.proofs.Common.{◌≡◌, ◌∙◌, ℕ, suc, ◌+◌, Bool, true, false, cond, List, [], ◌∷◌, take, drop, refl, ap, arith}
+use Rattle.std.specs.List.{prefix_len}
 use Rattle.rank_order.specs.Decimal.{is_digit, AreDigits}
 use Rattle.rank_order.specs.DecimalTexts.{front_digits, past_digits}
 
-pub take_front : (text : List ℕ) → take (length (front_digits text)) text ≡ front_digits text
+-- the digits at the front
+pub take_front : (text : List ℕ) → take (prefix_len is_digit text) text ≡ front_digits text
 take_front [] = refl
-take_front (b ∷ bs) = by (is_digit b) refl (take_front bs)
+take_front (b ∷ bs) = by (is_digit b) (take_front bs)
   where
-    by : (d : Bool) → is_digit b ≡ d → take (length (front_digits bs)) bs ≡ front_digits bs → take (length (cond d (b ∷ front_digits bs) [])) (b ∷ bs) ≡ cond d (b ∷ front_digits bs) []
-    by true e rest = ap (λ (l : List ℕ). b ∷ l) rest
-    by false e rest = refl
+    by : (d : Bool) → take (prefix_len is_digit bs) bs ≡ front_digits bs → take (cond d (1 + prefix_len is_digit bs) 0) (b ∷ bs) ≡ cond d (b ∷ front_digits bs) []
+    by true rest = let e : 1 + prefix_len is_digit bs ≡ suc (prefix_len is_digit bs) = omega arith in ap (λ (k : ℕ). take k (b ∷ bs)) e ∙ ap (λ (l : List ℕ). b ∷ l) rest
+    by false rest = refl
 
-pub drop_front : (text : List ℕ) → drop (length (front_digits text)) text ≡ past_digits text
+-- what follows them
+pub drop_front : (text : List ℕ) → drop (prefix_len is_digit text) text ≡ past_digits text
 drop_front [] = refl
-drop_front (b ∷ bs) = by (is_digit b) refl (drop_front bs)
+drop_front (b ∷ bs) = by (is_digit b) (drop_front bs)
   where
-    by : (d : Bool) → is_digit b ≡ d → drop (length (front_digits bs)) bs ≡ past_digits bs → drop (length (cond d (b ∷ front_digits bs) [])) (b ∷ bs) ≡ cond d (past_digits bs) (b ∷ bs)
-    by true e rest = rest
-    by false e rest = refl
+    by : (d : Bool) → drop (prefix_len is_digit bs) bs ≡ past_digits bs → drop (cond d (1 + prefix_len is_digit bs) 0) (b ∷ bs) ≡ cond d (past_digits bs) (b ∷ bs)
+    by true rest = let e : 1 + prefix_len is_digit bs ≡ suc (prefix_len is_digit bs) = omega arith in ap (λ (k : ℕ). drop k (b ∷ bs)) e ∙ rest
+    by false rest = refl
 
-pub front_within : (text : List ℕ) → length (front_digits text) ≤ length text
-front_within [] = omega arith
-front_within (b ∷ bs) = by (is_digit b) (front_within bs)
-  where
-    by : (d : Bool) → length (front_digits bs) ≤ length bs → length (cond d (b ∷ front_digits bs) []) ≤ length (b ∷ bs)
-    by true h = omega arith
-    by false h = omega arith
-
+-- they are digits
 pub are_front_digits : (text : List ℕ) → AreDigits (front_digits text)
 are_front_digits [] = tt
 are_front_digits (b ∷ bs) = by (is_digit b) refl (are_front_digits bs)

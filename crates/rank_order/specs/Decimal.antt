@@ -1,22 +1,20 @@
 -- Decimal numbers as texts, and their values.
-use Rattle.std.specs.Prelude.{◌≡◌, ◌≤◌, ℕ, ◌+◌, ◌-◌, ◌*◌, ◌^◌, Bool, true, false, ◌&&◌, ◌||◌, ◌==◌, nat_le, if◌then◌else◌, List, [], ◌∷◌, ◌++◌, length, Option, Some, None, ⊤}
-
--- 0 to 9
-abbrev pub is_digit : ℕ → Bool
-is_digit b = nat_le 48 b && nat_le b 57
+use Rattle.std.specs.Prelude.{◌≡◌, ◌≤◌, ℕ, ◌+◌, ◌-◌, ◌*◌, ◌^◌, Bool, true, false, if◌then◌else◌, List, [], ◌∷◌, ◌++◌, length, codes, Option, Some, None, ⊤}
+pub use Rattle.byte_words.specs.Bytes.{is_digit}
+use Rattle.byte_words.specs.Bytes.{is_one_of}
+use Rattle.byte_words.specs.Lists.{AllPassing}
 
 abbrev pub AreDigits : List ℕ → Type 0
-AreDigits [] = ⊤
-AreDigits (b ∷ bs) = (is_digit b ≡ true) × AreDigits bs
+AreDigits bytes = AllPassing is_digit bytes
 
--- the number that digits stand for: each counts ten to the number of digits behind it
+-- the number that digits stand for: each counts ten to the number of digits after it
 abbrev pub digits_value : List ℕ → ℕ
 digits_value [] = 0
 digits_value (b ∷ bs) = (b - 48) * 10 ^ length bs + digits_value bs
 
 -- e or E
 abbrev pub is_exponent_letter : ℕ → Bool
-is_exponent_letter b = b == 101 || b == 69
+is_exponent_letter b = is_one_of (codes "eE") b
 
 pub data Sign : Type 0 where
   unsigned : Sign

@@ -72,7 +72,8 @@ fn units_of(whole: &[u8], fraction: &[u8], lowers: bool, exponent: &[u8]) -> Opt
     requires fraction { AreDigits fraction.now }
     requires exponent { AreDigits exponent.now }
     ensures units { IfSome result (AreScaledBy whole.now fraction.now lowers exponent.now) }
-    ensures none { IfNone result ((units : ℕ) → AreScaledBy whole.now fraction.now lowers exponent.now units → ⊥) }
+    ensures none { IfNone result ((units : ℕ) →
+        AreScaledBy whole.now fraction.now lowers exponent.now units → ⊥) }
 {
     match digits_of(whole, fraction) {
         Some(number) => by_exponent(number, fraction.len(), lowers, exponent),
@@ -106,7 +107,8 @@ fn by_exponent(number: Number, places: usize, lowers: bool, exponent: &[u8]) -> 
     requires places { places < 2 ^ 63 }
     requires exponent { AreDigits exponent.now }
     ensures units { IfSome result (IsScaledBy (value_of number) places lowers exponent.now) }
-    ensures none { IfNone result ((units : ℕ) → IsScaledBy (value_of number) places lowers exponent.now units → ⊥) }
+    ensures none { IfNone result ((units : ℕ) →
+        IsScaledBy (value_of number) places lowers exponent.now units → ⊥) }
 {
     let Some(size) = small_number(exponent) else {
         return if number.significant == 0 {

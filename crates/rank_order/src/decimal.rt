@@ -1,6 +1,7 @@
 //! The parts of a decimal number.
 
-ghost use Rattle.std.specs.Prelude.{◌≡◌, ℕ, length};
+ghost use Rattle.std.specs.Prelude.{◌≡◌, ◌≤◌, ℕ, length};
+ghost use Rattle.std.specs.List.{prefix_len};
 ghost use Rattle.rank_order.specs.Decimal.{Sign, has_minus, is_digit, is_exponent_letter, fraction_digits};
 ghost use Rattle.rank_order.specs.DecimalTexts.{front_digits, past_digits, fraction_in, past_fraction, are_digits, exponent_with, signed_in, exponent_in, decimal_of};
 ghost use Rattle.rank_order.specs.Inside.Parts.{IsExponentText, IsDecimalText};
@@ -13,7 +14,7 @@ pub struct ExponentText<'a> {
     pub digits: &'a [u8],
 }
 
-/// The digits of a decimal number before its point and behind it, and its exponent.
+/// The digits of a decimal number before its point and after it, and its exponent.
 #[derive(Clone, Copy, Debug)]
 pub struct DecimalText<'a> {
     pub whole: &'a [u8],
@@ -39,29 +40,23 @@ fn are_digits(bytes: &[u8]) -> bool
     bytes.iter().all(|byte| is_digit(*byte))
 }
 
-fn digits_end(text: &[u8]) -> usize
-    ensures { result ≡ length (front_digits text.now) }
+fn digits_len(text: &[u8]) -> usize
+    ensures len { result ≡ prefix_len is_digit text.now }
+    ensures within { result ≤ length text.now }
 {
-    let mut end = 0;
-    for byte in text {
-        if !is_digit(*byte) {
-            return end;
-        }
-        end += 1;
-    }
-    end
+    text.iter().take_while(|byte| is_digit(**byte)).count()
 }
 
 // The longest front of digits, and the rest.
-#[tactic(auto, using(crate::proofs::DigitLaws::take_front, crate::proofs::DigitLaws::drop_front, crate::proofs::DigitLaws::front_within))]
+#[tactic(auto, using(crate::proofs::DigitLaws::take_front, crate::proofs::DigitLaws::drop_front))]
 fn split_digits(text: &[u8]) -> (&[u8], &[u8])
     ensures front { result.0.now ≡ front_digits text.now }
     ensures rest { result.1.now ≡ past_digits text.now }
 {
-    text.split_at(digits_end(text))
+    text.split_at(digits_len(text))
 }
 
-// The digits behind a point, where a point comes first, and the rest.
+// The digits after a point, if a point comes first, and the rest.
 fn split_fraction(text: &[u8]) -> (&[u8], &[u8])
     ensures digits { result.0.now ≡ fraction_digits (fraction_in text.now) }
     ensures rest { result.1.now ≡ past_fraction text.now }
@@ -95,7 +90,7 @@ pub fn read_decimal(text: &[u8]) -> Option<DecimalText<'_>>
     })
 }
 
-// The exponent that is the whole text, where it is one or the text is empty.
+// The exponent that is the whole text, if it is one or the text is empty.
 fn read_exponent(text: &[u8]) -> Option<ExponentText<'_>>
     ensures { IsExponentText (exponent_in text.now) result }
 {
@@ -126,7 +121,8 @@ fn read_signed(text: &[u8]) -> Option<ExponentText<'_>>
 }
 
 fn exponent_with(lowers: bool, digits: &[u8]) -> Option<ExponentText<'_>>
-    ensures { (letter : ℕ) (sign : Sign) → lowers ≡ has_minus sign → IsExponentText (exponent_with letter sign digits.now) result }
+    ensures { (letter : ℕ) (sign : Sign) → lowers ≡ has_minus sign →
+        IsExponentText (exponent_with letter sign digits.now) result }
 {
     if digits.is_empty() || !are_digits(digits) {
         return None;

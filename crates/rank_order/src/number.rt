@@ -16,7 +16,7 @@ pub struct Number {
     pub zeros: u64,
 }
 
-// The number with more zeros, where that is not too large.
+// The number with more zeros, if that is not too large.
 fn with_zeros(number: u128, zeros: u128) -> Option<u128>
     requires { number ≤ 10 ^ 36 }
     ensures { SomeIff result (number * 10 ^ zeros ≤ 10 ^ 36) (number * 10 ^ zeros) }
@@ -63,16 +63,18 @@ fn with_digit(number: Number, digit: u8) -> Option<Number>
     })
 }
 
-/// The number with more digits, or none where more than 36 digits are significant and no power of
-/// ten makes units of it.
+/// The number with more digits, or none if more than 36 digits are significant and no power of ten
+/// makes units of it.
 pub fn with_digits(number: Number, digits: &[u8]) -> Option<Number>
     requires short { IsShort number }
     requires digits { AreDigits digits.now }
     requires zeros { number.zeros + length digits.now < 2 ^ 64 }
-    ensures value { IfSome result (λ n. value_of n ≡ value_of number * 10 ^ length digits.now + digits_value digits.now) }
+    ensures value { IfSome result (λ n.
+        value_of n ≡ value_of number * 10 ^ length digits.now + digits_value digits.now) }
     ensures short { IfSome result IsShort }
     ensures zeros { IfSome result (λ n. n.zeros ≤ number.zeros + length digits.now) }
-    ensures fine { IfNone result (IsTooFine (value_of number * 10 ^ length digits.now + digits_value digits.now)) }
+    ensures fine { IfNone result
+        (IsTooFine (value_of number * 10 ^ length digits.now + digits_value digits.now)) }
 {
     let mut whole = number;
     for digit in digits {
@@ -84,7 +86,7 @@ pub fn with_digits(number: Number, digits: &[u8]) -> Option<Number>
     Some(whole)
 }
 
-/// The units of which this number with `up` more zeros has as many as `down` zeros behind them.
+/// The units of which this number with `up` more zeros has as many as `down` zeros after them.
 pub fn scaled(number: Number, up: u128, down: u128) -> Option<u128>
     requires short { IsShort number }
     requires up { up < 2 ^ 127 }
@@ -96,12 +98,12 @@ pub fn scaled(number: Number, up: u128, down: u128) -> Option<u128>
     }
     match (number.zeros as u128 + up).checked_sub(down) {
         Some(zeros) => with_zeros(number.significant, zeros),
-        // A digit that is not 0 stands behind the last place of the units.
+        // A digit that is not 0 stands after the last place of the units.
         None => None,
     }
 }
 
-/// The number that digits stand for, where it is below 10^20.
+/// The number that digits stand for, if it is below 10^20.
 pub fn small_number(digits: &[u8]) -> Option<u128>
     requires { AreDigits digits.now }
     ensures { SomeIff result (digits_value digits.now < 10 ^ 20) (digits_value digits.now) }

@@ -17,8 +17,8 @@ pub struct RankKey {
     pub row: u32,
 }
 
-/// Less where row `a` stands before row `b`: it has the greater confidence, or both have the same
-/// and `a` is the earlier row (for the order see Meilicke 2011; the rule for ties is this project's).
+/// Less if row `a` stands before row `b`: it has the greater confidence, or both have the same and
+/// `a` is the earlier row (for the order see Meilicke 2011; the rule for ties is this project's).
 pub fn compare(a: RankKey, b: RankKey) -> Ordering
     ensures before { (result ≡ Ordering.Less) ↔ IsBefore a b }
     ensures after { (result ≡ Ordering.Greater) ↔ IsBefore b a }
@@ -72,7 +72,7 @@ pub fn rank(alloc: Global, confidences: &[Confidence]) -> Result<Ranks, AllocErr
     ensures { IfOk result (λ rows. IsRanking confidences.now rows) }
 {
     let numbers = row_numbers(alloc, confidences.len() as u32)?;
-    // The keys are sorted where they stand, which is faster than to look each up at each comparison.
+    // The keys are sorted in place, which is faster than to look each up at each comparison.
     let mut keys = keys_of(alloc, confidences, numbers.as_slice())?;
     keys.sort_by(|a, b| compare(*a, *b))?;
     let rows = rows_of(alloc, keys.as_slice())?;

@@ -1,307 +1,17 @@
 -- What is read as an entry, and its key and value in UTF-8.
-use Rattle.std.proofs.Common.{◌≡◌, ◌∙◌, ℕ, zero, suc, ◌+◌, ◌≤◌, ◌<◌, Bool, true, false, cond, ◌&&◌, List, [], ◌∷◌, ◌++◌, length, take, drop, get_or, refl, ap, sym, subst, arith, append_assoc, append-nil, length-append}
-use Rattle.std.specs.Prelude.{Option, Some, None, IsUtf8, ◌==◌, ⊤, replicate}
-use Rattle.std.specs.List.{AllByRecursion, prefix_len}
+use Rattle.std.proofs.Common.{◌≡◌, ◌∙◌, ℕ, zero, suc, ◌≤◌, ◌<◌, Bool, true, false, cond, List, [], ◌∷◌, ◌++◌, drop, refl, ap, sym, subst, arith, append_assoc, append-nil}
+use Rattle.std.specs.Prelude.{Option, Some, None, IsUtf8, ◌==◌, replicate}
 use Rattle.std.specs.Str.{is_utf8}
+use Rattle.std.proofs.lemmas.Bool.{and_parts, eqb-true}
 use Rattle.std.proofs.lemmas.Bool.Decides.{nat_tests}
-use Rattle.std.proofs.lemmas.Str.{IsUtf8-from_is_utf8, is_utf8-from_IsUtf8, IsUtf8-take, IsUtf8-drop, IsCharBoundary-before_ascii, IsCharBoundary-after_ascii}
+use Rattle.std.proofs.lemmas.Str.{IsUtf8-from_is_utf8, is_utf8-from_IsUtf8}
+use Rattle.byte_words.specs.Bytes.{is_space}
+use Rattle.byte_words.specs.Lists.{BeginsWithout}
 use Rattle.sssom_head.specs.Lines.{begins_with_hash}
 use Rattle.sssom_head.specs.Contents.{behind_spaces, indentation}
-use Rattle.sssom_head.specs.Entries.{is_quote, is_quoted_byte, is_key_byte, is_indicator, is_value_byte, Word, word_text, word_bytes, IsKey, BeginsValue, IsValue, Comment, comment_text, IsComment, Entry, entry_text, IsEntry}
-use Rattle.sssom_head.specs.HeaderSteps.{Pair, split_some, quote_at, split_quote, key_in, value_in, behind_some_spaces, behind_colon, ends_entry, entry_with_value, entry_behind_colon, entry_with_key, entry_in, entry_of}
-
--- a text in UTF-8 may be cut round an ASCII byte
-get_mid : (xs ys : List ℕ) (b : ℕ) → get_or (xs ++ b ∷ ys) (length xs) 0 ≡ b
-get_mid [] ys b = refl
-get_mid (x ∷ xs) ys b = get_mid xs ys b
-
-take_mid : (xs ys : List ℕ) → take (length xs) (xs ++ ys) ≡ xs
-take_mid [] [] = refl
-take_mid [] (y ∷ ys) = refl
-take_mid (x ∷ xs) ys = ap (λ (l : List ℕ). x ∷ l) (take_mid xs ys)
-
-drop_mid : (xs ys : List ℕ) (b : ℕ) → drop (suc (length xs)) (xs ++ b ∷ ys) ≡ ys
-drop_mid [] ys b = refl
-drop_mid (x ∷ xs) ys b = drop_mid xs ys b
-
-pub utf8_parts : (xs ys : List ℕ) (b : ℕ) → b < 128 → IsUtf8 (xs ++ b ∷ ys) → IsUtf8 xs × IsUtf8 ys
-utf8_parts xs ys b small h =
-    let whole = xs ++ b ∷ ys in
-    let within : length xs < length whole = omega (arith, length-append xs (b ∷ ys)) in
-    let low : get_or whole (length xs) 0 < 128 = omega (arith, get_mid xs ys b) in
-    let next : length xs + 1 ≡ suc (length xs) = omega arith in (
-      subst IsUtf8 (take_mid xs (b ∷ ys)) (IsUtf8-take whole (length xs) h (IsCharBoundary-before_ascii whole (length xs) within low)),
-      subst IsUtf8 (ap (λ (k : ℕ). drop k whole) next ∙ drop_mid xs ys b) (IsUtf8-drop whole (length xs + 1) h (IsCharBoundary-after_ascii whole (length xs) h within low)),
-    )
-
-same_number : (a b : ℕ) → (a == b) ≡ true → a ≡ b
-same_number a b e = grind (arith, nat_tests)
-
-both_true : (a b : Bool) → (a && b) ≡ true → (a ≡ true) × (b ≡ true)
-both_true true b e = (refl, e)
-both_true false b e = absurd cc
-
-abbrev pub AllPass : (ℕ → Bool) → List ℕ → Type 0
-AllPass p bytes = AllByRecursion (λ b. p b ≡ true) bytes
-
--- the bytes are none, or the first fails the test
-abbrev pub BeginsWithout : (ℕ → Bool) → List ℕ → Type 0
-BeginsWithout p [] = ⊤
-BeginsWithout p (b ∷ bs) = p b ≡ false
-
--- spaces at the front
-abbrev pub is_space : ℕ → Bool
-is_space b = b == 32
-
-spaces_join : (text : List ℕ) → text ≡ replicate (indentation text) 32 ++ behind_spaces text
-spaces_join [] = refl
-spaces_join (b ∷ bs) = by (b == 32) refl (spaces_join bs)
-  where
-    by : (d : Bool) → (b == 32) ≡ d → bs ≡ replicate (indentation bs) 32 ++ behind_spaces bs → b ∷ bs ≡ replicate (cond d (1 + indentation bs) 0) 32 ++ cond d (behind_spaces bs) (b ∷ bs)
-    by true e rest =
-        let more : suc (indentation bs) ≡ 1 + indentation bs = omega arith in
-        ap (λ (k : ℕ). k ∷ bs) (same_number b 32 e) ∙ ap (λ (l : List ℕ). 32 ∷ l) rest ∙ ap (λ (k : ℕ). replicate k 32 ++ behind_spaces bs) more
-    by false e rest = refl
-
-spaces_end : (text : List ℕ) → BeginsWithout is_space (behind_spaces text)
-spaces_end [] = tt
-spaces_end (b ∷ bs) = by (b == 32) refl (spaces_end bs)
-  where
-    by : (d : Bool) → (b == 32) ≡ d → BeginsWithout is_space (behind_spaces bs) → BeginsWithout is_space (cond d (behind_spaces bs) (b ∷ bs))
-    by true e rest = rest
-    by false e rest = e
-
-no_spaces : (rest : List ℕ) → BeginsWithout is_space rest → behind_spaces rest ≡ rest
-no_spaces [] h = refl
-no_spaces (b ∷ bs) h = ap (λ (d : Bool). cond d (behind_spaces bs) (b ∷ bs)) h
-
-spaces_back : (n : ℕ) (rest : List ℕ) → BeginsWithout is_space rest → behind_spaces (replicate n 32 ++ rest) ≡ rest
-spaces_back zero rest h = no_spaces rest h
-spaces_back (suc n) rest h = spaces_back n rest h
-
--- quotes
-record QuoteFound (quote n m : ℕ) (bytes : List ℕ) : Type 0 where
-  own : List ℕ
-  rest : List ℕ
-  whole : bytes ≡ own ++ quote ∷ rest
-  all : AllPass (is_quoted_byte quote) own
-  at : m ≡ n + length own
-
-quote_found : (quote n m : ℕ) (bytes : List ℕ) → quote_at quote n bytes ≡ Some m → QuoteFound quote n m bytes
-quote_found quote n m [] e = absurd cc
-quote_found quote n m (b ∷ bs) e = first (b == quote) refl e (quote_found quote (n + 1) m bs)
-  where
-    second : (d : Bool) → is_quoted_byte quote b ≡ d → cond d (quote_at quote (n + 1) bs) None ≡ Some m →
-        (quote_at quote (n + 1) bs ≡ Some m → QuoteFound quote (n + 1) m bs) → QuoteFound quote n m (b ∷ bs)
-    second true t h rest =
-        let found = rest h in
-        record { own = b ∷ found.own; rest = found.rest; whole = ap (λ (l : List ℕ). b ∷ l) found.whole; all = (t, found.all); at = omega (arith, found.at) }
-    second false t h rest = absurd cc
-
-    first : (d : Bool) → (b == quote) ≡ d → cond d (Some n) (cond (is_quoted_byte quote b) (quote_at quote (n + 1) bs) None) ≡ Some m →
-        (quote_at quote (n + 1) bs ≡ Some m → QuoteFound quote (n + 1) m bs) → QuoteFound quote n m (b ∷ bs)
-    first true t h rest = record { own = []; rest = bs; whole = ap (λ (k : ℕ). k ∷ bs) (same_number b quote t); all = tt; at = let same : n ≡ m = cc in omega (arith, same) }
-    first false t h rest = second (is_quoted_byte quote b) refl h rest
-
-no_quote : (quote b : ℕ) → is_quoted_byte quote b ≡ true → (b == quote) ≡ false
-no_quote quote b e = grind (arith, nat_tests)
-
-own_quote : (quote : ℕ) → (quote == quote) ≡ true
-own_quote quote = grind (arith, nat_tests)
-
-quote_back : (quote n : ℕ) (own rest : List ℕ) → AllPass (is_quoted_byte quote) own → quote_at quote n (own ++ quote ∷ rest) ≡ Some (n + length own)
-quote_back quote n [] rest all =
-    ap (λ (d : Bool). cond d (Some n) (cond (is_quoted_byte quote quote) (quote_at quote (n + 1) rest) None)) (own_quote quote)
-    ∙ ap (λ (k : ℕ). Some k) (let e : n ≡ n + 0 = omega arith in e)
-quote_back quote n (b ∷ bs) rest all =
-    let more : n + 1 + length bs ≡ n + length (b ∷ bs) = omega arith in
-    ap (λ (d : Bool). cond d (Some n) (cond (is_quoted_byte quote b) (quote_at quote (n + 1) (bs ++ quote ∷ rest)) None)) (no_quote quote b all.0)
-    ∙ ap (λ (d : Bool). cond d (quote_at quote (n + 1) (bs ++ quote ∷ rest)) None) all.0
-    ∙ quote_back quote (n + 1) bs rest all.1
-    ∙ ap (λ (k : ℕ). Some k) more
-
-abbrev some_pair : List ℕ → List ℕ → Option Pair
-some_pair front back = Some (front, back)
-
-record Split (p : ℕ → Bool) (text : List ℕ) (parts : Pair) : Type 0 where
-  all : AllPass p parts.0
-  some : 1 ≤ length parts.0
-  whole : text ≡ parts.0 ++ parts.1
-
-record QuoteSplit (quote : ℕ) (text : List ℕ) (parts : Pair) : Type 0 where
-  all : AllPass (is_quoted_byte quote) parts.0
-  whole : text ≡ parts.0 ++ quote ∷ parts.1
-
-next : (xs ys : List ℕ) (b : ℕ) → drop (length xs + 1) (xs ++ b ∷ ys) ≡ ys
-next xs ys b = let e : length xs + 1 ≡ suc (length xs) = omega arith in ap (λ (k : ℕ). drop k (xs ++ b ∷ ys)) e ∙ drop_mid xs ys b
-
-quote_split : (quote : ℕ) (text : List ℕ) (parts : Pair) → split_quote text (quote_at quote 0 text) ≡ Some parts → QuoteSplit quote text parts
-quote_split quote text parts h = by (quote_at quote 0 text) refl h
-  where
-    by : (o : Option ℕ) → quote_at quote 0 text ≡ o → split_quote text o ≡ Some parts → QuoteSplit quote text parts
-    by None e h = absurd cc
-    by (Some m) e h =
-        let found = quote_found quote 0 m text e in
-        let at : m ≡ length found.own = omega (arith, found.at) in
-        let front : take m text ≡ found.own = ap (λ (k : ℕ). take k text) at ∙ ap (λ (l : List ℕ). take (length found.own) l) found.whole ∙ take_mid found.own (quote ∷ found.rest) in
-        let back : drop (m + 1) text ≡ found.rest = ap (λ (k : ℕ). drop (k + 1) text) at ∙ ap (λ (l : List ℕ). drop (length found.own + 1) l) found.whole ∙ next found.own found.rest quote in
-        let pair : Pair = (take m text, drop (m + 1) text) in
-        let same : pair ≡ parts = cc in
-        subst (QuoteSplit quote text) same
-        (record { all = subst (AllPass (is_quoted_byte quote)) (sym front) found.all; whole = found.whole ∙ ap (λ (l : List ℕ). l ++ quote ∷ found.rest) (sym front) ∙ ap (λ (l : List ℕ). take m text ++ quote ∷ l) (sym back) })
-
-quote_again : (quote : ℕ) (own rest : List ℕ) → AllPass (is_quoted_byte quote) own → split_quote (own ++ quote ∷ rest) (quote_at quote 0 (own ++ quote ∷ rest)) ≡ Some (own, rest)
-quote_again quote own rest all =
-    let text = own ++ quote ∷ rest in
-    let at : 0 + length own ≡ length own = omega arith in
-    ap (split_quote text) (quote_back quote 0 own rest all ∙ ap (λ (k : ℕ). Some k) at)
-    ∙ ap (λ (l : List ℕ). some_pair l (drop (length own + 1) text)) (take_mid own (quote ∷ rest))
-    ∙ ap (λ (l : List ℕ). some_pair own l) (next own rest quote)
-
--- the longest front that passes a test
-front_split : (p : ℕ → Bool) (text : List ℕ) → AllPass p (take (prefix_len p text) text) × (text ≡ take (prefix_len p text) text ++ drop (prefix_len p text) text)
-front_split p [] = (tt, refl)
-front_split p (b ∷ bs) = by (p b) refl (front_split p bs)
-  where
-    by : (d : Bool) → p b ≡ d → AllPass p (take (prefix_len p bs) bs) × (bs ≡ take (prefix_len p bs) bs ++ drop (prefix_len p bs) bs) →
-        AllPass p (take (cond d (1 + prefix_len p bs) 0) (b ∷ bs)) × (b ∷ bs ≡ take (cond d (1 + prefix_len p bs) 0) (b ∷ bs) ++ drop (cond d (1 + prefix_len p bs) 0) (b ∷ bs))
-    by true e rest =
-        let more : suc (prefix_len p bs) ≡ 1 + prefix_len p bs = omega arith in
-        subst (λ (k : ℕ). AllPass p (take k (b ∷ bs)) × (b ∷ bs ≡ take k (b ∷ bs) ++ drop k (b ∷ bs))) more
-        ((e, rest.0), ap (λ (l : List ℕ). b ∷ l) rest.1)
-    by false e rest = (tt, refl)
-
-front_len : (p : ℕ → Bool) (text : List ℕ) → prefix_len p text ≤ length text
-front_len p [] = omega arith
-front_len p (b ∷ bs) = by (p b) (front_len p bs)
-  where
-    by : (d : Bool) → prefix_len p bs ≤ length bs → cond d (1 + prefix_len p bs) 0 ≤ length (b ∷ bs)
-    by true h = omega arith
-    by false h = omega arith
-
-length_front : (n : ℕ) (text : List ℕ) → n ≤ length text → length (take n text) ≡ n
-length_front zero text h = refl
-length_front (suc n) [] h = absurd (omega arith)
-length_front (suc n) (b ∷ bs) h = let rest = length_front n bs (omega arith) in omega arith
-
-not_zero : (n : ℕ) → (n == 0) ≡ false → 1 ≤ n
-not_zero n e = grind (arith, nat_tests)
-
-is_not_zero : (n : ℕ) → 1 ≤ n → (n == 0) ≡ false
-is_not_zero n h = grind (arith, nat_tests)
-
-some_split : (p : ℕ → Bool) (text : List ℕ) (parts : Pair) → split_some (prefix_len p text) text ≡ Some parts → Split p text parts
-some_split p text parts = by (prefix_len p text == 0) refl
-  where
-    pair : Pair
-    pair = (take (prefix_len p text) text, drop (prefix_len p text) text)
-
-    by : (d : Bool) → (prefix_len p text == 0) ≡ d → cond d None (Some pair) ≡ Some parts → Split p text parts
-    by true e h = absurd cc
-    by false e h =
-        let same : pair ≡ parts = cc in
-        let front = front_split p text in
-        subst (Split p text) same
-        (record { all = front.0; some = omega (arith, length_front (prefix_len p text) text (front_len p text), not_zero (prefix_len p text) e); whole = front.1 })
-
-front_back : (p : ℕ → Bool) (own rest : List ℕ) → AllPass p own → BeginsWithout p rest → prefix_len p (own ++ rest) ≡ length own
-front_back p [] [] all h = refl
-front_back p [] (b ∷ bs) all h = ap (λ (d : Bool). cond d (1 + prefix_len p bs) 0) h
-front_back p (b ∷ bs) rest all h =
-    let more = front_back p bs rest all.1 h in
-    ap (λ (d : Bool). cond d (1 + prefix_len p (bs ++ rest)) 0) all.0 ∙ omega (arith, more)
-
-drop_front : (xs ys : List ℕ) → drop (length xs) (xs ++ ys) ≡ ys
-drop_front [] ys = refl
-drop_front (x ∷ xs) ys = drop_front xs ys
-
-some_again : (p : ℕ → Bool) (own rest : List ℕ) → AllPass p own → 1 ≤ length own → BeginsWithout p rest → split_some (prefix_len p (own ++ rest)) (own ++ rest) ≡ Some (own, rest)
-some_again p own rest all some h =
-    let text = own ++ rest in
-    ap (λ (k : ℕ). split_some k text) (front_back p own rest all h)
-    ∙ ap (λ (d : Bool). cond d None (some_pair (take (length own) text) (drop (length own) text))) (is_not_zero (length own) some)
-    ∙ ap (λ (l : List ℕ). some_pair l (drop (length own) text)) (take_mid own rest)
-    ∙ ap (λ (l : List ℕ). some_pair own l) (drop_front own rest)
-
--- keys
-record KeyRead (text : List ℕ) (parts : Pair) : Type 0 where
-  word : Word
-  form : IsKey word
-  own : parts.0 ≡ word_bytes word
-  whole : text ≡ word_text word ++ parts.1
-
-key_read : (text : List ℕ) (parts : Pair) → key_in text ≡ Some parts → KeyRead text parts
-key_read [] parts h = absurd cc
-key_read (b ∷ bs) parts h = by (is_quote b) refl h
-  where
-    by : (d : Bool) → is_quote b ≡ d → cond d (split_quote bs (quote_at b 0 bs)) (split_some (prefix_len is_key_byte (b ∷ bs)) (b ∷ bs)) ≡ Some parts → KeyRead (b ∷ bs) parts
-    by true e h =
-        let split = quote_split b bs parts h in
-        record { word = Word.quoted b parts.0; form = (e, split.all); own = refl; whole = ap (λ (l : List ℕ). b ∷ l) (split.whole ∙ sym (append_assoc parts.0 (b ∷ []) parts.1)) }
-    by false e h =
-        let split = some_split is_key_byte (b ∷ bs) parts h in
-        record { word = Word.plain parts.0; form = (split.some, split.all); own = refl; whole = split.whole }
-
-key_no_quote : (b : ℕ) → is_key_byte b ≡ true → is_quote b ≡ false
-key_no_quote b e = grind (arith, nat_tests)
-
-key_again : (word : Word) (rest : List ℕ) → IsKey word → BeginsWithout is_key_byte rest → key_in (word_text word ++ rest) ≡ Some (word_bytes word, rest)
-key_again (Word.plain []) rest form h = absurd (omega (arith, form.0))
-key_again (Word.plain (b ∷ bs)) rest form h =
-    ap (λ (d : Bool). cond d (split_quote (bs ++ rest) (quote_at b 0 (bs ++ rest))) (split_some (prefix_len is_key_byte (b ∷ bs ++ rest)) (b ∷ bs ++ rest))) (key_no_quote b form.1.0)
-    ∙ some_again is_key_byte (b ∷ bs) rest form.1 form.0 h
-key_again (Word.quoted quote own) rest form h =
-    let text = (own ++ quote ∷ []) ++ rest in
-    ap (λ (d : Bool). cond d (split_quote text (quote_at quote 0 text)) (split_some (prefix_len is_key_byte (quote ∷ text)) (quote ∷ text))) form.0
-    ∙ ap (λ (l : List ℕ). split_quote l (quote_at quote 0 l)) (append_assoc own (quote ∷ []) rest)
-    ∙ quote_again quote own rest form.1
-
--- values
-record ValueRead (text : List ℕ) (parts : Pair) : Type 0 where
-  word : Word
-  form : IsValue word
-  own : parts.0 ≡ word_bytes word
-  whole : text ≡ word_text word ++ parts.1
-
-begins_value : (b : ℕ) (bs own rest : List ℕ) → b ∷ bs ≡ own ++ rest → 1 ≤ length own → is_indicator b ≡ false → BeginsValue own
-begins_value b bs [] rest e some h = absurd (omega arith)
-begins_value b bs (c ∷ cs) rest e some h = let same : b ≡ c = cc in subst (λ (k : ℕ). is_indicator k ≡ false) same h
-
-value_read : (text : List ℕ) (parts : Pair) → value_in text ≡ Some parts → ValueRead text parts
-value_read [] parts h = absurd cc
-value_read (b ∷ bs) parts h = first (is_quote b) refl h
-  where
-    plain : Option Pair
-    plain = split_some (prefix_len is_value_byte (b ∷ bs)) (b ∷ bs)
-
-    second : (d : Bool) → is_indicator b ≡ d → cond d None plain ≡ Some parts → ValueRead (b ∷ bs) parts
-    second true e h = absurd cc
-    second false e h =
-        let split = some_split is_value_byte (b ∷ bs) parts h in
-        record { word = Word.plain parts.0; form = (begins_value b bs parts.0 parts.1 split.whole split.some e, split.all); own = refl; whole = split.whole }
-
-    first : (d : Bool) → is_quote b ≡ d → cond d (split_quote bs (quote_at b 0 bs)) (cond (is_indicator b) None plain) ≡ Some parts → ValueRead (b ∷ bs) parts
-    first true e h =
-        let split = quote_split b bs parts h in
-        record { word = Word.quoted b parts.0; form = (e, split.all); own = refl; whole = ap (λ (l : List ℕ). b ∷ l) (split.whole ∙ sym (append_assoc parts.0 (b ∷ []) parts.1)) }
-    first false e h = second (is_indicator b) refl h
-
-value_no_quote : (b : ℕ) → is_indicator b ≡ false → is_quote b ≡ false
-value_no_quote b e = grind (arith, nat_tests)
-
-value_again : (word : Word) (rest : List ℕ) → IsValue word → BeginsWithout is_value_byte rest → value_in (word_text word ++ rest) ≡ Some (word_bytes word, rest)
-value_again (Word.plain []) rest form h = absurd form.0
-value_again (Word.plain (b ∷ bs)) rest form h =
-    let text = b ∷ bs ++ rest in
-    let plain = split_some (prefix_len is_value_byte text) text in
-    ap (λ (d : Bool). cond d (split_quote (bs ++ rest) (quote_at b 0 (bs ++ rest))) (cond (is_indicator b) None plain)) (value_no_quote b form.0)
-    ∙ ap (λ (d : Bool). cond d None plain) form.0
-    ∙ some_again is_value_byte (b ∷ bs) rest form.1 (omega arith) h
-value_again (Word.quoted quote own) rest form h =
-    let text = (own ++ quote ∷ []) ++ rest in
-    ap (λ (d : Bool). cond d (split_quote text (quote_at quote 0 text)) (cond (is_indicator quote) None (split_some (prefix_len is_value_byte (quote ∷ text)) (quote ∷ text)))) form.0
-    ∙ ap (λ (l : List ℕ). split_quote l (quote_at quote 0 l)) (append_assoc own (quote ∷ []) rest)
-    ∙ quote_again quote own rest form.1
+use Rattle.sssom_head.specs.Entries.{is_quote, is_value_byte, Word, word_text, word_bytes, IsKey, IsValue, Comment, comment_text, IsComment, Entry, entry_text, IsEntry}
+use Rattle.sssom_head.specs.HeaderSteps.{Pair, key_in, value_in, behind_some_spaces, behind_colon, ends_entry, entry_with_value, entry_behind_colon, entry_with_key, entry_in, entry_of}
+use Rattle.sssom_head.proofs.WordLaws.{utf8_parts, spaces_join, spaces_end, spaces_back, some_pair, KeyRead, key_read, key_again, value_read, value_again}
 
 -- the colon and the spaces behind it
 record ColonRead (text rest : List ℕ) : Type 0 where
@@ -324,7 +34,7 @@ spaces_read (b ∷ bs) rest h = by (b == 32) refl h
     by true e h =
         let same : behind_spaces bs ≡ rest = cc in
         subst (SpacesRead (b ∷ bs)) same
-        (record { spaces = suc (indentation bs); some = omega arith; free = spaces_end bs; whole = ap (λ (k : ℕ). k ∷ bs) (same_number b 32 e) ∙ ap (λ (l : List ℕ). 32 ∷ l) (spaces_join bs) })
+        (record { spaces = suc (indentation bs); some = omega arith; free = spaces_end bs; whole = ap (λ (k : ℕ). k ∷ bs) (eqb-true b 32 e) ∙ ap (λ (l : List ℕ). 32 ∷ l) (spaces_join bs) })
     by false e h = absurd cc
 
 colon_read : (text rest : List ℕ) → behind_colon text ≡ Some rest → ColonRead text rest
@@ -334,7 +44,7 @@ colon_read (b ∷ bs) rest h = by (b == 58) refl h
     by : (d : Bool) → (b == 58) ≡ d → cond d (behind_some_spaces bs) None ≡ Some rest → ColonRead (b ∷ bs) rest
     by true e h =
         let spaces = spaces_read bs rest h in
-        record { spaces = spaces.spaces; some = spaces.some; free = spaces.free; whole = ap (λ (k : ℕ). k ∷ bs) (same_number b 58 e) ∙ ap (λ (l : List ℕ). 58 ∷ l) spaces.whole }
+        record { spaces = spaces.spaces; some = spaces.some; free = spaces.free; whole = ap (λ (k : ℕ). k ∷ bs) (eqb-true b 58 e) ∙ ap (λ (l : List ℕ). 58 ∷ l) spaces.whole }
     by false e h = absurd cc
 
 colon_again : (n : ℕ) (rest : List ℕ) → 1 ≤ n → BeginsWithout is_space rest → behind_colon (58 ∷ (replicate n 32 ++ rest)) ≡ Some rest
@@ -349,16 +59,16 @@ record EndRead (text : List ℕ) : Type 0 where
 
 hash_first : (bytes : List ℕ) → begins_with_hash bytes ≡ true → bytes ≡ 35 ∷ drop 1 bytes
 hash_first [] e = absurd cc
-hash_first (b ∷ bs) e = ap (λ (k : ℕ). k ∷ bs) (same_number b 35 e)
+hash_first (b ∷ bs) e = ap (λ (k : ℕ). k ∷ bs) (eqb-true b 35 e)
 
 end_read : (text : List ℕ) → ends_entry text ≡ true → EndRead text
 end_read [] h = record { comment = None; form = tt; whole = refl }
 end_read (b ∷ bs) h =
-    let both = both_true (b == 32) (begins_with_hash (behind_spaces bs)) h in
+    let both = and_parts (b == 32) (begins_with_hash (behind_spaces bs)) h in
     record {
       comment = Some (record { spaces = suc (indentation bs); inner = drop 1 (behind_spaces bs) });
       form = omega arith;
-      whole = ap (λ (k : ℕ). k ∷ bs) (same_number b 32 both.0) ∙ ap (λ (l : List ℕ). 32 ∷ l) (spaces_join bs ∙ ap (λ (l : List ℕ). replicate (indentation bs) 32 ++ l) (hash_first (behind_spaces bs) both.1));
+      whole = ap (λ (k : ℕ). k ∷ bs) (eqb-true b 32 both.0) ∙ ap (λ (l : List ℕ). 32 ∷ l) (spaces_join bs ∙ ap (λ (l : List ℕ). replicate (indentation bs) 32 ++ l) (hash_first (behind_spaces bs) both.1));
     }
 
 end_again : (comment : Option Comment) → IsComment comment → ends_entry (comment_text comment) ≡ true

@@ -1,3 +1,7 @@
+pub mod ReadBack
+pub mod FoundLaws
+pub mod LinePush
+pub mod WordLaws
 pub mod LineLaws
 pub mod EntryLaws
 pub mod PrefixLaws

@@ -1,8 +1,9 @@
 -- The lines of a text, its header lines, and trimmed texts.
-use Rattle.std.proofs.Common.{◌≡◌, ◌∙◌, ℕ, zero, suc, ◌+◌, ◌≤◌, Bool, true, false, cond, ◌&&◌, List, [], ◌∷◌, ◌++◌, ◌⊎◌, ⊎_elim, inl, inr, length, take, drop, refl, ap, sym, subst, arith, append-nil, length-append}
+use Rattle.std.proofs.Common.{◌≡◌, ◌∙◌, ℕ, suc, ◌+◌, ◌≤◌, Bool, true, false, cond, ◌&&◌, List, [], ◌∷◌, ◌++◌, ◌⊎◌, ⊎_elim, inl, inr, length, take, drop, refl, ap, sym, subst, arith, append-nil, length-append}
 use Rattle.std.specs.Prelude.{◌==◌}
 use Rattle.std.specs.List.{AllByRecursion, concat}
 use Rattle.std.proofs.Math.Seq.{take-append_seam}
+use Rattle.std.proofs.lemmas.Bool.{and_parts, eqb-true}
 use Rattle.std.proofs.lemmas.Bool.Decides.{nat_tests}
 use Rattle.std.proofs.lemmas.List.{drop_at, length-take-le}
 use Rattle.std.proofs.lemmas.List.Folds.{concat-append}
@@ -22,11 +23,8 @@ joined (b ∷ bs) = by (b == 10) refl (joined bs)
     by true e rest = ap (λ (l : List ℕ). b ∷ l) rest
     by false e rest = concat_onto b (lines_of bs) ∙ ap (λ (l : List ℕ). b ∷ l) rest
 
-is_feed : (b : ℕ) → (b == 10) ≡ true → b ≡ 10
-is_feed b e = grind (arith, nat_tests)
-
 one_feed : (b : ℕ) → (b == 10) ≡ true → IsWholeLine (b ∷ [])
-one_feed b e = record { own = []; no_feed = tt; spelled = ap (λ (c : ℕ). c ∷ []) (is_feed b e) }
+one_feed b e = record { own = []; no_feed = tt; spelled = ap (λ (c : ℕ). c ∷ []) (eqb-true b 10 e) }
 
 -- a byte that is no line feed, before a line
 longer_line : (b : ℕ) (line : List ℕ) (later : List (List ℕ)) → (b == 10) ≡ false → IsWholeLine line ⊎ IsOpenLine line later → IsWholeLine (b ∷ line) ⊎ IsOpenLine (b ∷ line) later
@@ -154,10 +152,6 @@ all_blank b bs space short rest = record {
   last = λ before c e. absurd (omega (arith, ap length e, length-append before (c ∷ [])));
 }
 
-both_hold : (v w : Bool) → (v && w) ≡ true → (v ≡ true) × (w ≡ true)
-both_hold true w e = (refl, e)
-both_hold false w e = absurd cc
-
 -- the end of a text is within it
 end_within : (bs : List ℕ) → trimmed_end bs ≤ length bs
 end_within [] = omega arith
@@ -195,6 +189,6 @@ trims [] = record { blank = []; whole = refl; spaces = tt; last = λ before b e.
 trims (b ∷ bs) = by (is_space_or_tab b && trimmed_end bs == 0) refl (trims bs)
   where
     by : (d : Bool) → (is_space_or_tab b && trimmed_end bs == 0) ≡ d → IsTrimmed bs (trimmed bs) → IsTrimmed (b ∷ bs) (take (cond d 0 (1 + trimmed_end bs)) (b ∷ bs))
-    by true e rest = let both = both_hold (is_space_or_tab b) (trimmed_end bs == 0) e in
+    by true e rest = let both = and_parts (is_space_or_tab b) (trimmed_end bs == 0) e in
         let short : trimmed_end bs ≡ 0 = grind (arith, nat_tests, both.1) in all_blank b bs both.0 short rest
     by false e rest = subst (λ (n : ℕ). IsTrimmed (b ∷ bs) (take n (b ∷ bs))) (let k : suc (trimmed_end bs) ≡ 1 + trimmed_end bs = omega arith in k) (some_visible b bs e rest)

@@ -1,11 +1,12 @@
 -- The entries of a map of prefixes, as they are written.
-use Rattle.std.specs.Prelude.{◌≡◌, ◌≤◌, ℕ, ◌==◌, nat_le, Bool, true, false, not, ◌&&◌, ◌||◌, List, [], ◌∷◌, ◌++◌, length, replicate, Option, Some, None, ⊤, IsUtf8}
-use Rattle.std.specs.List.{AllByRecursion}
+use Rattle.std.specs.Prelude.{◌≡◌, ◌≤◌, ℕ, ◌==◌, Bool, true, false, not, ◌&&◌, ◌||◌, List, [], ◌∷◌, ◌++◌, length, replicate, Option, Some, None, ⊤, IsUtf8, codes}
+use Rattle.byte_words.specs.Bytes.{is_space, is_one_of, is_letter_or_digit}
+use Rattle.byte_words.specs.Lists.{AllPassing}
 use Rattle.sssom_head.specs.Contents.{behind_spaces}
 
 -- ' or "
 abbrev pub is_quote : ℕ → Bool
-is_quote b = b == 39 || b == 34
+is_quote b = is_one_of (codes "'\"") b
 
 -- any byte but the quote itself, and between two " no \ either
 abbrev pub is_quoted_byte : ℕ → ℕ → Bool
@@ -13,14 +14,14 @@ is_quoted_byte quote b = not (b == quote) && not (quote == 34 && b == 92)
 
 -- an ASCII letter or digit, or one of _ . -
 abbrev pub is_key_byte : ℕ → Bool
-is_key_byte b = (nat_le 48 b && nat_le b 57) || (nat_le 65 b && nat_le b 90) || (nat_le 97 b && nat_le b 122) || b == 95 || b == 46 || b == 45
+is_key_byte b = is_letter_or_digit b || is_one_of (codes "_.-") b
 
--- [ ] { } , & * ! | > % @ # ' " and the backquote
+-- an indicator of YAML, with which no plain value begins
 abbrev pub is_indicator : ℕ → Bool
-is_indicator b = b == 91 || b == 93 || b == 123 || b == 125 || b == 44 || b == 38 || b == 42 || b == 33 || b == 124 || b == 62 || b == 37 || b == 64 || b == 35 || b == 39 || b == 34 || b == 96
+is_indicator b = is_one_of (codes "[]{},&*!|>%@#'\"`") b
 
 abbrev pub is_value_byte : ℕ → Bool
-is_value_byte b = not (b == 32)
+is_value_byte b = not (is_space b)
 
 -- a key or a value, as it stands or between quotes
 pub data Word : Type 0 where
@@ -36,19 +37,19 @@ word_bytes (Word.plain bytes) = bytes
 word_bytes (Word.quoted quote bytes) = bytes
 
 abbrev pub IsQuoted : ℕ → List ℕ → Type 0
-IsQuoted quote bytes = (is_quote quote ≡ true) × AllByRecursion (λ b. is_quoted_byte quote b ≡ true) bytes
+IsQuoted quote bytes = (is_quote quote ≡ true) × AllPassing (is_quoted_byte quote) bytes
 
 abbrev pub IsKey : Word → Type 0
-IsKey (Word.plain bytes) = (1 ≤ length bytes) × AllByRecursion (λ b. is_key_byte b ≡ true) bytes
+IsKey (Word.plain bytes) = (1 ≤ length bytes) × AllPassing is_key_byte bytes
 IsKey (Word.quoted quote bytes) = IsQuoted quote bytes
 
--- one byte or more, the first of which is no mark
+-- one byte or more, the first of which is no indicator
 abbrev pub BeginsValue : List ℕ → Type 0
 BeginsValue [] = ⊥
 BeginsValue (b ∷ bs) = is_indicator b ≡ false
 
 abbrev pub IsValue : Word → Type 0
-IsValue (Word.plain bytes) = BeginsValue bytes × AllByRecursion (λ b. is_value_byte b ≡ true) bytes
+IsValue (Word.plain bytes) = BeginsValue bytes × AllPassing is_value_byte bytes
 IsValue (Word.quoted quote bytes) = IsQuoted quote bytes
 
 pub record Comment : Type 0 where
@@ -63,7 +64,7 @@ abbrev pub IsComment : Option Comment → Type 0
 IsComment None = ⊤
 IsComment (Some comment) = 1 ≤ comment.spaces
 
--- a key, a colon, spaces, a value and perhaps a comment behind spaces
+-- a key, a colon, spaces, a value and perhaps a comment after spaces
 pub record Entry : Type 0 where
   pub key : Word
   pub spaces : ℕ

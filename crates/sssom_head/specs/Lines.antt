@@ -1,6 +1,7 @@
 -- The header lines of a table, and their contents.
-use Rattle.std.specs.Prelude.{◌≡◌, ◌≤◌, ◌⊎◌, ℕ, ◌+◌, ◌-◌, ◌==◌, Bool, true, false, ◌&&◌, ◌||◌, if◌then◌else◌, List, [], ◌∷◌, ◌++◌, length, take, drop, map, bytes_eq, ⊤}
-use Rattle.std.specs.List.{AllByRecursion}
+use Rattle.std.specs.Prelude.{◌≡◌, ◌≤◌, ◌⊎◌, ℕ, ◌+◌, ◌-◌, ◌==◌, Bool, false, ◌&&◌, ◌||◌, if◌then◌else◌, List, [], ◌∷◌, ◌++◌, length, take, drop, map, bytes_eq, ⊤}
+use Rattle.byte_words.specs.Bytes.{is_line_feed, is_space}
+use Rattle.byte_words.specs.Lists.{AllPassing, AllFailing}
 
 -- a byte more before the first line
 abbrev pub onto_line : ℕ → List (List ℕ) → List (List ℕ)
@@ -10,12 +11,12 @@ onto_line b (line ∷ lines) = (b ∷ line) ∷ lines
 -- the lines of a text, each with the line feed that it ends with; the last may have none
 abbrev pub lines_of : List ℕ → List (List ℕ)
 lines_of [] = []
-lines_of (b ∷ bs) = if b == 10 then (b ∷ []) ∷ lines_of bs else onto_line b (lines_of bs)
+lines_of (b ∷ bs) = if is_line_feed b then (b ∷ []) ∷ lines_of bs else onto_line b (lines_of bs)
 
 -- how many bytes the first line has
 abbrev pub first_line_end : List ℕ → ℕ
 first_line_end [] = 0
-first_line_end (b ∷ bs) = if b == 10 then 1 else 1 + first_line_end bs
+first_line_end (b ∷ bs) = if is_line_feed b then 1 else 1 + first_line_end bs
 
 abbrev pub begins_with_hash : List ℕ → Bool
 begins_with_hash [] = false
@@ -33,7 +34,7 @@ abbrev pub bytes_in : List (List ℕ) → ℕ
 bytes_in [] = 0
 bytes_in (line ∷ lines) = length line + bytes_in lines
 
--- the text without this end, where it has it
+-- the text without this end, if it has it
 abbrev pub ends_with : List ℕ → List ℕ → Bool
 ends_with back text = bytes_eq (drop (length text - length back) text) back
 
@@ -45,7 +46,7 @@ abbrev pub less_line_end : List ℕ → List ℕ
 less_line_end line = if ends_with (10 ∷ []) line then less_back (13 ∷ []) (take (length line - 1) line) else line
 
 abbrev pub is_space_or_tab : ℕ → Bool
-is_space_or_tab b = b == 32 || b == 9
+is_space_or_tab b = is_space b || b == 9
 
 -- how many bytes go up to the last that is neither a space nor a tab
 abbrev pub trimmed_end : List ℕ → ℕ
@@ -64,7 +65,7 @@ abbrev pub contents_of : List ℕ → List (List ℕ)
 contents_of text = map content_of (header_lines text)
 
 abbrev pub HasNoLineFeed : List ℕ → Type 0
-HasNoLineFeed bytes = AllByRecursion (λ b. (b == 10) ≡ false) bytes
+HasNoLineFeed bytes = AllFailing is_line_feed bytes
 
 -- bytes without a line feed, and then one
 pub record IsWholeLine (line : List ℕ) : Type 0 where
@@ -87,5 +88,5 @@ AreLines (line ∷ lines) = (IsWholeLine line ⊎ IsOpenLine line lines) × AreL
 pub record IsTrimmed (text front : List ℕ) : Type 0 where
   pub blank : List ℕ
   pub whole : text ≡ front ++ blank
-  pub spaces : AllByRecursion (λ b. is_space_or_tab b ≡ true) blank
+  pub spaces : AllPassing is_space_or_tab blank
   pub last : (before : List ℕ) (b : ℕ) → front ≡ before ++ b ∷ [] → is_space_or_tab b ≡ false

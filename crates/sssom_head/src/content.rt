@@ -2,23 +2,17 @@
 
 ghost use Rattle.std.specs.Prelude.{◌≡◌, ◌≤◌, length};
 ghost use Rattle.std.specs.Option.{option_map};
-ghost use Rattle.sssom_head.specs.Contents.{indentation, behind_spaces, is_blank, without_front, map_text, is_empty_map};
+ghost use Rattle.sssom_head.specs.Contents.{indentation, behind_spaces, is_blank, map_text, is_empty_map};
 
 use crate::lines::begins_with_hash;
+use byte_words::without_front;
 
 /// How many spaces a content begins with.
 pub fn indentation(content: &[u8]) -> usize
     ensures indentation { result ≡ indentation content.now }
     ensures within { result ≤ length content.now }
 {
-    let mut spaces = 0;
-    for byte in content {
-        if *byte != b' ' {
-            return spaces;
-        }
-        spaces += 1;
-    }
-    spaces
+    content.iter().take_while(|byte| **byte == b' ').count()
 }
 
 #[tactic(auto, using(crate::proofs::LineLaws::drop_spaces))]
@@ -34,13 +28,7 @@ pub fn is_blank(content: &[u8]) -> bool
     content.is_empty() || begins_with_hash(behind_spaces(content))
 }
 
-fn without_front<'a>(text: &'a [u8], front: &[u8]) -> Option<&'a [u8]>
-    ensures { option_map (λ rest. rest.now) result ≡ without_front front.now text.now }
-{
-    text.strip_prefix(front)
-}
-
-/// What stands behind `curie_map:`, in a line with which a map may begin.
+/// What follows `curie_map:`, in a line with which a map may begin.
 pub fn map_text(content: &[u8]) -> Option<&[u8]>
     ensures { option_map (λ text. text.now) result ≡ map_text content.now }
 {

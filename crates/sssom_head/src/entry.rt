@@ -55,28 +55,14 @@ fn key_len(text: &[u8]) -> usize
     ensures len { result ≡ prefix_len is_key_byte text.now }
     ensures within { result ≤ length text.now }
 {
-    let mut len = 0;
-    for byte in text {
-        if !is_key_byte(*byte) {
-            return len;
-        }
-        len += 1;
-    }
-    len
+    text.iter().take_while(|byte| is_key_byte(**byte)).count()
 }
 
 fn value_len(text: &[u8]) -> usize
     ensures len { result ≡ prefix_len is_value_byte text.now }
     ensures within { result ≤ length text.now }
 {
-    let mut len = 0;
-    for byte in text {
-        if *byte == b' ' {
-            return len;
-        }
-        len += 1;
-    }
-    len
+    text.iter().take_while(|byte| **byte != b' ').count()
 }
 
 fn quote_at(quote: u8, text: &[u8]) -> Option<usize>

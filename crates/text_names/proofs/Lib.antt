@@ -1,3 +1,4 @@
+pub mod Lookups
 pub mod PlaceLaws
 pub mod PrefixLaws
 pub mod NameLaws

@@ -1,10 +1,12 @@
 -- How tokens are read: what each is to the items, and the first fault of brackets.
-use Rattle.std.specs.Prelude.{◌≡◌, ℕ, ◌+◌, ◌-◌, Bool, true, ◌&&◌, ◌==◌, nat_lt, if◌then◌else◌, List, [], ◌∷◌, Option, Some, None, ⊤}
+use Rattle.std.specs.Prelude.{◌≡◌, ℕ, ◌+◌, ◌-◌, Bool, true, ◌&&◌, ◌==◌, nat_lt, if◌then◌else◌, List, [], ◌∷◌, Option, Some, None}
+use Rattle.byte_words.specs.Faults.{OrOutOfMemory}
 use Rattle.ofn_lex.specs.declared.token.Token.{Token}
 use Rattle.ofn_lex.specs.Texts.{HasTokens}
 use Rattle.ofn_term.specs.declared.fault.TermFault.{TermFault}
 use Rattle.ofn_term.specs.declared.fault.TermFault.TheVariants as fault
 use Rattle.ofn_term.specs.Words.{is_open, is_close, is_word, begins_open}
+use Rattle.ofn_term.specs.Texts.{term_ran_out}
 use Rattle.ofn_term.specs.Writing.{Piece, opening, closing, head, atom}
 
 -- a word directly before an opening bracket is a head
@@ -18,7 +20,7 @@ abbrev pub pieces_of : List ℕ → List Token → List Piece
 pieces_of text [] = []
 pieces_of text (token ∷ tokens) = piece_of text token tokens ∷ pieces_of text tokens
 
--- the first open bracket, where one more opens at start
+-- the first open bracket, if one more opens at start
 abbrev pub first_open : ℕ → ℕ → ℕ → ℕ
 first_open depth first start = if depth == 0 then start else first
 
@@ -40,11 +42,13 @@ begins_close (token ∷ tokens) = is_close token
 
 -- the fault is this one, unless memory ran out
 abbrev pub IsFaultUnlessMemory : Option TermFault → TermFault → Type 0
-IsFaultUnlessMemory found fault.OutOfMemory = ⊤
-IsFaultUnlessMemory found other = found ≡ Some other
+IsFaultUnlessMemory expected found = OrOutOfMemory term_ran_out (λ other. expected ≡ Some other) found
 
--- why a text has no tokens to its end
+-- the text has tokens up to an offset at which none begins
+abbrev pub HasLexFault : List ℕ → TermFault → Type 0
+HasLexFault text (fault.Lex offset) = (tokens : List Token) × HasTokens text 0 tokens (Some (record { offset = offset }))
+HasLexFault text _ = ⊥
+
+-- why a text has no tokens to its end, unless memory ran out
 abbrev pub IsLexFault : List ℕ → TermFault → Type 0
-IsLexFault text (fault.Lex offset) = (tokens : List Token) × HasTokens text 0 tokens (Some (record { offset = offset }))
-IsLexFault text fault.OutOfMemory = ⊤
-IsLexFault text _ = ⊥
+IsLexFault text found = OrOutOfMemory term_ran_out (HasLexFault text) found

@@ -4,7 +4,7 @@ use Rattle.indexmap.specs.IndexMap.{values}
 use Rattle.std.proofs.lemmas.List.Sums.{count_by-le-length}
 use Rattle.text_names.specs.Names.{number_of}
 use Rattle.text_names.specs.Inside.NameKeys.{hash_of, count_with_hash}
-use Rattle.text_names.proofs.NameLaws.{seek_start, found_at, passed_at, ended_at, below, beyond}
+use Rattle.text_names.proofs.Lookups.{seek_start, found_at, passed_at, ended_at, below, beyond}
 use Rattle.text_names.proofs.names.NameTable.search.Goals as goal
 
 pub loop-number-init : goal.loop-number-init

@@ -2,7 +2,7 @@ use Rattle.std.proofs.Common.{◌≡◌, ◌-◌, ◌≤◌}
 use Rattle.indexmap.specs.IndexMap.{values}
 use Rattle.text_names.specs.Names.{number_of}
 use Rattle.text_names.specs.Inside.NameKeys.{hash_of, count_with_hash}
-use Rattle.text_names.proofs.NameLaws.{seek}
+use Rattle.text_names.proofs.Lookups.{seek}
 use Rattle.text_names.proofs.names.NameTable.search.Given as goal
 
 abbrev pub invariant-loop-number : goal.invariant-loop-number
