@@ -4,7 +4,7 @@
 
 ghost use Rattle.std.specs.Prelude.{◌≡◌};
 ghost use Rattle.std.specs.Process.{exit_status};
-ghost use Rattle.repair_run.specs.Status.{number_of};
+ghost use Rattle.repair_run.specs.Status.{status_number};
 
 use io_edge::{RealFolder, StdSink};
 use repair_run::{Status, repair};
@@ -34,7 +34,7 @@ fn words(alloc: Global, args: env::Args) -> Result<Vec<Text>, u8> {
 
 // How the program ends after an answer: with its number.
 fn ended_with(status: &Status) -> ExitCode
-    ensures { exit_status result ≡ number_of status.now }
+    ensures { exit_status result ≡ status_number status.now }
 {
     ExitCode::from(status.number())
 }

@@ -6,8 +6,8 @@ use Rattle.io_edge.specs.declared.outside.PutAnswer.TheVariants as Put
 use Rattle.io_edge.specs.declared.memory.MemSink.{MemSink}
 
 -- the bytes that were put
-abbrev pub bytes_of : MemSink → List ℕ
-bytes_of sink = sink.got
+abbrev pub got_of : MemSink → List ℕ
+got_of sink = sink.got
 
 -- how many puts were called, up to the end of the counter's type
 abbrev pub calls_of : MemSink → ℕ
@@ -23,11 +23,11 @@ faults_of sink = sink.schedule.faults
 
 -- it tells all that it has got
 abbrev pub seen_of : MemSink → SinkSeen
-seen_of sink = record { got = Some (bytes_of sink); faults = faults_of sink }
+seen_of sink = record { got = Some (got_of sink); faults = faults_of sink }
 
 -- all but the list of failing calls is as before
 pub record ChangesOnlyFailing (old new : MemSink) : Type 0 where
-  pub bytes : bytes_of new ≡ bytes_of old
+  pub bytes : got_of new ≡ got_of old
   pub calls : calls_of new ≡ calls_of old
   pub faults : faults_of new ≡ faults_of old
 

@@ -162,11 +162,11 @@ impl Folder for MemFolder {
 }
 
 impl MemSink {
-    ghost use Rattle.io_edge.specs.MemSink.{bytes_of, calls_of, failing_of, faults_of, ChangesOnlyFailing};
+    ghost use Rattle.io_edge.specs.MemSink.{got_of, calls_of, failing_of, faults_of, ChangesOnlyFailing};
 
     /// A sink that has got nothing, and in which no call fails.
     pub fn new(alloc: Global) -> Self
-        ensures bytes { bytes_of result ≡ [] }
+        ensures bytes { got_of result ≡ [] }
         ensures calls { calls_of result ≡ 0 }
         ensures failing { failing_of result ≡ [] }
         ensures faults { faults_of result ≡ 0 }
@@ -179,7 +179,7 @@ impl MemSink {
 
     /// All bytes that were put.
     pub fn bytes(&self) -> &[u8]
-        ensures { result.now ≡ bytes_of self.now }
+        ensures { result.now ≡ got_of self.now }
     {
         self.got.as_slice()
     }
@@ -195,7 +195,7 @@ impl MemSink {
 }
 
 impl Sink for MemSink {
-    ghost use Rattle.io_edge.specs.MemSink.{bytes_of, seen_of, calls_of, failing_of, faults_of, AnswersPut};
+    ghost use Rattle.io_edge.specs.MemSink.{got_of, seen_of, calls_of, failing_of, faults_of, AnswersPut};
 
     ghost seen = { λ sink. seen_of sink };
 
@@ -205,7 +205,7 @@ impl Sink for MemSink {
 
         // What this sink says beyond the trait.
         ensures exact { let fails = Contains (failing_of self.old) (calls_of self.new) in
-            AnswersPut (bytes_of self.old) (bytes_of self.new) bytes.now fails result }
+            AnswersPut (got_of self.old) (got_of self.new) bytes.now fails result }
         ensures calls { calls_of self.new ≡ count_after (calls_of self.old) }
         ensures failing { failing_of self.new ≡ failing_of self.old }
         ensures faults { faults_of self.new ≡ faults_after_put (faults_of self.old) result }

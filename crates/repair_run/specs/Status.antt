@@ -5,14 +5,14 @@ use Rattle.io_edge.specs.declared.outside.Role.{Role}
 use Rattle.io_edge.specs.declared.outside.Target.TheVariants as Target
 use Rattle.repair_run.specs.declared.status.Status.{Status}
 
-abbrev pub number_of : Status → ℕ
-number_of Status.Done = 0
-number_of Status.Words = 2
-number_of (Status.Incoherent part class) = 5
-number_of (Status.ReadFault file) = 7
-number_of (Status.WriteFault target) = 8
-number_of Status.OutOfMemory = 9
-number_of (Status.Unbuilt file) = 10
+abbrev pub status_number : Status → ℕ
+status_number Status.Done = 0
+status_number Status.Words = 2
+status_number (Status.Incoherent part class) = 5
+status_number (Status.ReadFault file) = 7
+status_number (Status.WriteFault target) = 8
+status_number Status.OutOfMemory = 9
+status_number (Status.Unbuilt file) = 10
 
 abbrev pub role_text : Role → List ℕ
 role_text Role.Left = codes "LEFT"

@@ -47,8 +47,10 @@ pub fn a_small_case_says_its_axioms()
 
 /// What a run leaves is determined by its files: they have one outcome at most, so one text of OUT and one summary.
 pub fn files_have_one_outcome()
-    ensures out { (files : Files) (names : FileNames) (one other : Outcome files names) → out_text one ≡ out_text other }
-    ensures summary { (files : Files) (names : FileNames) (one other : Outcome files names) → summary_of one ≡ summary_of other }
+    ensures out { (files : Files) (names : FileNames) (one other : Outcome files names)
+        → out_text one ≡ out_text other }
+    ensures summary { (files : Files) (names : FileNames) (one other : Outcome files names)
+        → summary_of one ≡ summary_of other }
 {
     ranking_lists_by_rank();
 }

@@ -1,3 +1,4 @@
+//! What a run answers.
 ghost use Rattle.std.specs.Prelude.{◌≡◌};
 
 use el_logic::Part;
@@ -27,11 +28,11 @@ pub enum Status {
 }
 
 impl Status {
-    ghost use Rattle.repair_run.specs.Status.{number_of};
+    ghost use Rattle.repair_run.specs.Status.{status_number};
 
     /// The exit status of the program.
     pub fn number(&self) -> u8
-        ensures { result ≡ number_of self.now }
+        ensures { result ≡ status_number self.now }
     {
         match self {
             Status::Done => 0,
