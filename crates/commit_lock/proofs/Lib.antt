@@ -1,0 +1,11 @@
+pub mod Sums
+pub mod Views
+pub mod Words
+pub mod DrawSteps
+pub mod EntryLemmas
+pub mod SeatNumbers
+pub mod Witness
+pub mod TurnSteps
+pub mod SeatSteps
+pub mod Entering
+pub mod Closing

@@ -1,0 +1,308 @@
+-- The steps that split, number, join and settle seats keep the rule of the lock.
+use Rattle.std.proofs.Common.{◌≡◌, ◌≢◌, ◌==◌, ◌%◌, ◌/◌, ◌-◌, ◌+◌, ◌*◌, ◌^◌, ◌<◌, ◌≤◌, ℕ, Bool, List, [], ◌∷◌, ◌++◌, set, slice_index, cond, Option, Some, None, refl, sym, ap, ◌∙◌, subst, arith}
+use Rattle.std.specs.List.{sum_by}
+use Rattle.std.proofs.lemmas.List.Sums.{sum_by_push}
+use mathlib.Core.Logic.{dite}
+use mathlib.Core.Option as maybe
+use native.Mathlib.Decide.{ℕ_discrete}
+use lib.ListN.{get_elem?}
+use Rattle.atomic_table.specs.Table.{State, Me, step, keeps, Allows, Splits, Joins}
+use Rattle.atomic_table.proofs.Lists.{set_else}
+use Rattle.commit_lock.specs.declared.lock.SeatView.{SeatView}
+use Rattle.commit_lock.specs.Entries.{longer, made_by}
+use Rattle.commit_lock.specs.Inside.LockRule.{turn, stands_for, room, lives_as, Knows, Counts, LockRule}
+use Rattle.commit_lock.specs.Inside.LockSteps.{one_less, unnumbered, numbered, joined, spent_seat, settled, Rests, DrawsNumber, SettlesJoin}
+use Rattle.commit_lock.proofs.Sums.{sum_by-set_at, sum_by-at_most}
+use Rattle.commit_lock.proofs.Views.{set_there, each_changed, each_added}
+use Rattle.commit_lock.proofs.Words.{word_found, word_left}
+use Rattle.commit_lock.proofs.EntryLemmas.{begins_itself, merged, made_by-between, made_by-front}
+use Rattle.commit_lock.proofs.SeatNumbers.{lives_as-own, lives_as-other, lives_as-none, differ, same_counts}
+use Rattle.commit_lock.proofs.Witness.{seen_changed, seen_added, seen_joined}
+
+module _ {C E : Type 0} where
+  -- a seat is split off, and gets one of the rooms
+  split_counts : (made : ℕ) (views : List (SeatView C E)) (id : ℕ) (view : SeatView C E) → get_elem? views id ≡ maybe.some view → 1 ≤ view.room
+      → Counts made views → Counts made (set views id (one_less view) ++ unnumbered view ∷ [])
+  split_counts made views id view at roomy counts =
+      let left : SeatView C E = one_less view in
+      let right : SeatView C E = unnumbered view in
+      let kept : List (SeatView C E) = set views id left in
+      let same : (n : ℕ) → sum_by (lives_as n) (kept ++ right ∷ []) ≡ sum_by (lives_as n) views = λ n.
+      let changed = sum_by-set_at (lives_as n) views id view left at in
+      let none = lives_as-none n right refl in
+      omega (arith, sum_by_push (lives_as n) kept right) in record {
+        apart = λ n. let one = same n in let before = counts.apart n in omega arith;
+        drawn = λ n above. same n ∙ counts.drawn n above;
+        below = each_added (λ (v : SeatView C E). v.number < made) kept right (counts.below id view at)
+            (each_changed (λ (v : SeatView C E). v.number < made) views id left (counts.below id view at) (λ place v apart at_place. counts.below place v at_place));
+        standing = let changed = sum_by-set_at stands_for views id view left at in let before = counts.standing in omega (arith, sum_by_push stands_for kept right);
+        rooms = let changed = sum_by-set_at room views id view left at in let before = counts.rooms in omega (arith, sum_by_push room kept right);
+      }
+
+  -- a seat that was split off gets the next number, and gives its room up
+  numbered_counts : (made : ℕ) (views : List (SeatView C E)) (id : ℕ) (view : SeatView C E) → get_elem? views id ≡ maybe.some view
+      → view.live ≡ 0 → view.stands_for ≡ 0 → view.room ≡ 1 → Counts made views → Counts (made + 1) (set views id (numbered made view))
+  numbered_counts made views id view at dead none_standing one_room counts =
+      let after : SeatView C E = numbered made view in record {
+        apart = λ n.
+            let changed = sum_by-set_at (lives_as n) views id view after at in
+            let none = lives_as-none n view dead in
+            let before = counts.apart n in
+            dite (ℕ_discrete made n)
+            (λ is. let one = lives_as-own n after refl is in let free = counts.drawn n (omega arith) in omega arith)
+            (λ is_not. let other = lives_as-other n after refl is_not in omega arith);
+        drawn = λ n above.
+            let changed = sum_by-set_at (lives_as n) views id view after at in
+            let none = lives_as-none n view dead in
+            let before = counts.drawn n (omega arith) in
+            let other = lives_as-other n after refl (λ e. omega arith) in
+            omega arith;
+        below = each_changed (λ (v : SeatView C E). v.number < made + 1) views id after (omega arith) (λ place v apart at_place. let before = counts.below place v at_place in omega arith);
+        standing = let changed = sum_by-set_at stands_for views id view after at in let before = counts.standing in omega arith;
+        rooms = let changed = sum_by-set_at room views id view after at in let before = counts.rooms in omega arith;
+      }
+
+  -- the seat that stays stands for both, and has the rooms of both
+  joined_counts : (made : ℕ) (views : List (SeatView C E)) (id other_id : ℕ) (view other : SeatView C E) → get_elem? views id ≡ maybe.some view
+      → get_elem? (set views id (joined longer view other)) other_id ≡ maybe.some other
+      → Counts made views → Counts made (set (set views id (joined longer view other)) other_id spent_seat)
+  joined_counts made views id other_id view other at at_other counts =
+      let both : SeatView C E = joined longer view other in
+      let kept : List (SeatView C E) = set views id both in
+      let fewer : (n : ℕ) → sum_by (lives_as n) (set kept other_id spent_seat) ≤ sum_by (lives_as n) views = λ n.
+      let one = sum_by-set_at (lives_as n) views id view both at in
+      let two = sum_by-set_at (lives_as n) kept other_id other spent_seat at_other in
+      let none = lives_as-none {C = C} {E = E} n spent_seat refl in
+      omega arith in record {
+        apart = λ n. let most = fewer n in let before = counts.apart n in omega arith;
+        drawn = λ n above. let most = fewer n in let before = counts.drawn n above in omega arith;
+        below = each_changed (λ (v : SeatView C E). v.number < made) kept other_id spent_seat (let before = counts.below id view at in omega arith)
+            (λ place v apart at_place. each_changed (λ (v : SeatView C E). v.number < made) views id both (counts.below id view at) (λ place v apart at_place. counts.below place v at_place) place v at_place);
+        standing =
+            let one = sum_by-set_at stands_for views id view both at in
+            let two = sum_by-set_at stands_for kept other_id other spent_seat at_other in
+            let before = counts.standing in
+            omega arith;
+        rooms =
+            let one = sum_by-set_at room views id view both at in
+            let two = sum_by-set_at room kept other_id other spent_seat at_other in
+            let before = counts.rooms in
+            omega arith;
+      }
+
+module _ {V C E : Type 0} (case_of : V → C) (entries_of : V → List E) (worker : E → ℕ) (key : C) where
+  abbrev Table : Type 0
+  Table = State (Option V) (SeatView C E)
+
+  abbrev Rule : Table → Type 0
+  Rule = LockRule case_of entries_of worker key
+
+  abbrev Known : List E → SeatView C E → Type 0
+  Known = Knows case_of entries_of worker key
+
+  -- a split
+  pub splits : (id : ℕ) (view : SeatView C E) → 1 ≤ view.room → Splits Rule id view (one_less view) (unnumbered view)
+  splits id view roomy state rule at =
+      let views = state.views in
+      let made = rule.made in
+      let mine = rule.each id view at in
+      let left : SeatView C E = one_less view in
+      let right : SeatView C E = unnumbered view in
+      let kept : List (SeatView C E) = set views id left in
+      let changed = sum_by-set_at turn views id view left at in
+      let most = rule.one_holder in
+      let same : sum_by turn (kept ++ right ∷ []) ≡ sum_by turn views = omega (arith, sum_by_push turn kept right) in record {
+        log = rule.log;
+        made = made;
+        word = rule.word ∙ ap (λ (t : ℕ). (2 * made + t) ∷ []) (sym same);
+        one_holder = omega arith;
+        free = λ none. rule.free (omega arith);
+        held = λ one. rule.held (omega arith);
+        each = each_added (Known rule.log) kept right
+            (record {
+              case = mine.case;
+              seen = mine.seen;
+              own = λ e. absurd (omega arith);
+              holder = omega arith;
+              entered = λ e. absurd (omega arith);
+              standing = omega arith;
+              before = begins_itself view.seen;
+              beside = (view.seen, refl);
+              kept = refl;
+              partner = λ e. absurd (omega arith);
+            })
+            (each_changed (Known rule.log) views id left
+            (record { case = mine.case; seen = mine.seen; own = mine.own; holder = mine.holder; entered = mine.entered; standing = mine.standing; before = mine.before; beside = mine.beside; kept = mine.kept; partner = mine.partner })
+            (λ place other apart at_other. rule.each place other at_other));
+        counts = split_counts made views id view at roomy rule.counts;
+        numbers = rule.numbers;
+        witness = seen_added rule.log kept right (seen_changed rule.log views id view left at (λ stands all. (stands, all)) rule.witness);
+      }
+
+  -- the step that draws the number of a seat that was split off
+  draws_number : (slots id first second : ℕ) (view : SeatView C E) → view.live ≡ 0 → view.turn ≡ 0 → view.stands_for ≡ 0 → view.room ≡ 1
+      → Allows Rule slots id (view, []) 0 (λ n. (n + 2) % 2 ^ 64) (DrawsNumber worker (step {S = Option V} slots 0 first second maybe.none) (view, []))
+  draws_number slots id first second view dead idle none_standing one_room state rule deep at bounded =
+      let views = state.views in
+      let made = rule.made in
+      let mine = rule.each id view at in
+      let after : SeatView C E = numbered made view in
+      let changed = sum_by-set_at turn views id view after at in
+      let small : made + 1 < 2 ^ 32 = let part = sum_by-at_most room views id view at in let all = rule.counts.rooms in omega arith in
+      let most = rule.one_holder in
+      let same : sum_by turn (set views id after) ≡ sum_by turn views = omega arith in
+      let found : slice_index state.words 0 ≡ 2 * made + sum_by turn views = word_found state.words (2 * made + sum_by turn views) rule.word in
+      let half : slice_index state.words 0 / 2 ≡ made = omega arith in
+      let none : made_by worker made rule.log ≡ [] = rule.numbers made (omega arith) in
+      let none_seen : made_by worker made view.seen ≡ [] = made_by-front worker made view.seen rule.log mine.seen none in (
+        after,
+        keeps,
+        tt,
+        record {
+          log = rule.log;
+          made = made + 1;
+          word = word_left state.words (λ n. (n + 2) % 2 ^ 64) (2 * made + sum_by turn views) (2 * (made + 1) + sum_by turn (set views id after)) rule.word (omega arith);
+          one_holder = omega arith;
+          free = λ none. rule.free (omega arith);
+          held = λ one. rule.held (omega arith);
+          each = each_changed (Known rule.log) views id after
+              (record {
+                case = mine.case;
+                seen = mine.seen;
+                own = λ _. none ∙ sym none_seen;
+                holder = omega arith;
+                entered = λ e. absurd (omega arith);
+                standing = omega arith;
+                before = begins_itself view.seen;
+                beside = (view.seen, refl);
+                kept = refl;
+                partner = λ _ e. omega arith;
+              })
+              (λ place other apart at_other. rule.each place other at_other);
+          counts = numbered_counts made views id view at dead none_standing one_room rule.counts;
+          numbers = λ n above. rule.numbers n (omega arith);
+          witness = seen_changed rule.log views id view after at (λ stands all. absurd (omega arith)) rule.witness;
+        },
+        (
+          omega arith,
+          (λ e. let below = rule.counts.below id view at in omega arith),
+          subst (λ (n : ℕ). made_by worker n view.seen ≡ []) (sym half) none_seen,
+          ap (λ (n : ℕ). (numbered n view, [])) (sym half),
+        ),
+      )
+
+  -- the same for a seat that was just split off
+  pub draws_by : (slots id first second : ℕ) (me : Me (Option V) (SeatView C E)) (view : SeatView C E) → me ≡ (unnumbered view, [])
+      → Allows Rule slots id me 0 (λ n. (n + 2) % 2 ^ 64) (DrawsNumber worker (step {S = Option V} slots 0 first second maybe.none) me)
+  draws_by slots id first second me view is =
+      subst (λ (m : Me (Option V) (SeatView C E)). Allows Rule slots id m 0 (λ n. (n + 2) % 2 ^ 64) (DrawsNumber worker (step {S = Option V} slots 0 first second maybe.none) m))
+      (sym is) (draws_number slots id first second (unnumbered view) refl refl refl refl)
+
+  -- a join
+  pub joins : (id other_id : ℕ) (view other : SeatView C E) → view.live ≡ 1 → other.live ≡ 1 → other.turn ≡ 0 → Joins Rule id view other_id other (joined longer view other) spent_seat
+  joins id other_id view other live lives idle state rule at apart at_other =
+      let views = state.views in
+      let made = rule.made in
+      let log = rule.log in
+      let both : SeatView C E = joined longer view other in
+      let kept : List (SeatView C E) = set views id both in
+      let was_there : get_elem? views other_id ≡ maybe.some other = sym (set_else views id other_id both apart) ∙ at_other in
+      let mine = rule.each id view at in
+      let its = rule.each other_id other was_there in
+      let (begins, view_begins, other_begins) = merged view.seen other.seen log mine.seen its.seen in
+      let of_all : made_by worker view.number log ≡ made_by worker view.number both.seen = made_by-between worker view.number view.seen both.seen log view_begins begins (mine.own live) in
+      let one = sum_by-set_at turn views id view both at in
+      let two = sum_by-set_at turn kept other_id other spent_seat at_other in
+      let most = rule.one_holder in
+      let same : sum_by turn (set kept other_id spent_seat) ≡ sum_by turn views = omega arith in record {
+        log = log;
+        made = made;
+        word = rule.word ∙ ap (λ (t : ℕ). (2 * made + t) ∷ []) (sym same);
+        one_holder = omega arith;
+        free = λ none. rule.free (omega arith);
+        held = λ one. rule.held (omega arith);
+        each = each_changed (Known log) kept other_id spent_seat
+            (record {
+              case = λ c e. absurd (cc e);
+              seen = (log, refl);
+              own = λ e. absurd (omega arith);
+              holder = omega arith;
+              entered = λ e. absurd (omega arith);
+              standing = omega arith;
+              before = ([], refl);
+              beside = ([], refl);
+              kept = refl;
+              partner = λ e. absurd (omega arith);
+            })
+            (λ place v _ at_place. each_changed (Known log) views id both
+            (record {
+              case = mine.case;
+              seen = begins;
+              own = λ _. of_all;
+              holder = mine.holder;
+              entered = mine.entered;
+              standing = let stands = mine.standing in omega arith;
+              before = view_begins;
+              beside = other_begins;
+              kept = sym of_all ∙ mine.own live;
+              partner = λ _. differ made views other_id id other view rule.counts was_there at apart lives live;
+            })
+            (λ place v _ at_place. rule.each place v at_place) place v at_place);
+        counts = joined_counts made views id other_id view other at at_other rule.counts;
+        numbers = rule.numbers;
+        witness = seen_joined log views id other_id view other both spent_seat at was_there apart (let stands = mine.standing in omega arith) begins view_begins other_begins rule.witness;
+      }
+
+  -- the look at the turn word after a join
+  settles : (slots id first second : ℕ) (view : SeatView C E) → view.live ≡ 1 → Allows Rule slots id (view, []) 0 (λ n. n) (SettlesJoin worker (step {S = Option V} slots 0 first second maybe.none) (view, []))
+  settles slots id first second view live state rule deep at bounded =
+      let views = state.views in
+      let made = rule.made in
+      let mine = rule.each id view at in
+      let after : SeatView C E = settled view in
+      let changed = sum_by-set_at turn views id view after at in
+      let same : sum_by turn (set views id after) ≡ sum_by turn views = omega arith in
+      let most = rule.one_holder in
+      let fits : view.room + view.stands_for ≤ 2 ^ 32 - 1 =
+          let rooms = sum_by-at_most room views id view at in
+          let standing = sum_by-at_most stands_for views id view at in
+          let seats = rule.counts.standing in
+          let all = rule.counts.rooms in
+          omega arith in (
+        after,
+        keeps,
+        tt,
+        record {
+          log = rule.log;
+          made = made;
+          word = word_left state.words (λ n. n) (2 * made + sum_by turn views) (2 * made + sum_by turn (set views id after)) rule.word (ap (λ (t : ℕ). 2 * made + t) (sym same));
+          one_holder = omega arith;
+          free = λ none. rule.free (omega arith);
+          held = λ one. rule.held (omega arith);
+          each = each_changed (Known rule.log) views id after
+              (record {
+                case = mine.case;
+                seen = mine.seen;
+                own = mine.own;
+                holder = mine.holder;
+                entered = mine.entered;
+                standing = mine.standing;
+                before = begins_itself view.seen;
+                beside = (view.seen, refl);
+                kept = refl;
+                partner = λ _ e. omega arith;
+              })
+              (λ place other apart at_other. rule.each place other at_other);
+          counts = same_counts made views id view after at refl refl refl refl rule.counts;
+          numbers = rule.numbers;
+          witness = seen_changed rule.log views id view after at (λ stands all. (stands, all)) rule.witness;
+        },
+        (mine.before, mine.beside, mine.kept, mine.partner live, fits, refl),
+      )
+
+  -- the same for a seat that rests
+  pub settles_by : (slots id first second : ℕ) (me : Me (Option V) (SeatView C E)) → Rests me
+      → Allows Rule slots id me 0 (λ n. n) (SettlesJoin worker (step {S = Option V} slots 0 first second maybe.none) me)
+  settles_by slots id first second (view, slot) rests =
+      subst (λ (l : List (ℕ × Option V)). Allows Rule slots id (view, l) 0 (λ n. n) (SettlesJoin worker (step {S = Option V} slots 0 first second maybe.none) (view, l)))
+      (sym rests.2) (settles slots id first second view rests.0)
