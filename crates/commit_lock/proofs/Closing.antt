@@ -34,16 +34,16 @@ module _ {V C E : Type 0} (case_of : V → C) (entries_of : V → List E) (worke
   turn_is_free : (id : ℕ) (view : SeatView C E) (state : Table) → view.turn ≡ 0 → view.room + view.stands_for ≡ most → Seen Rule id view state → sum_by turn state.views ≡ 0
   turn_is_free id view state idle whole seen = dite (ℕ_discrete (sum_by turn state.views) 0) (λ e. e)
       (λ some_turn.
-          let rule = seen.0 in
-          let (place, holder, at, has) = sum_by-some turn state.views (omega arith) in
-          let its = rule.each place holder at in
-          let apart : place ≢ id = λ same.
-          let one : holder ≡ view = at_one_place state.views id place view holder seen.1 at same in
-          let idle_too : holder.turn ≡ view.turn = ap turn one in omega arith in
-          let none = no_other id view state whole seen place holder at apart in
-          let lives = its.holder in
-          let stands = its.standing in
-          absurd (omega arith))
+      let rule = seen.0 in
+      let (place, holder, at, has) = sum_by-some turn state.views (omega arith) in
+      let its = rule.each place holder at in
+      let apart : place ≢ id = λ same.
+      let one : holder ≡ view = at_one_place state.views id place view holder seen.1 at same in
+      let idle_too : holder.turn ≡ view.turn = ap turn one in omega arith in
+      let none = no_other id view state whole seen place holder at apart in
+      let lives = its.holder in
+      let stands = its.standing in
+      absurd (omega arith))
 
   -- the whole seat has seen every entry
   has_seen_all : (id : ℕ) (view : SeatView C E) (state : Table) → view.room + view.stands_for ≡ most → (seen : Seen Rule id view state) → view.seen ≡ seen.0.log

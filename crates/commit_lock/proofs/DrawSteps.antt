@@ -96,7 +96,7 @@ module _ (S : Type 0) (n : ℕ) where
       let after : PassView = with_draw total view in
       let found : slice_index state.words 0 ≡ total = word_found state.words total rule.word in
       let all_over : sum_by (overs_by n) views ≤ sum_by stands_for views =
-          sum_by-pointwise (overs_by n) stands_for views (λ place other at_other. (rule.each place other at_other).few_over) in
+      sum_by-pointwise (overs_by n) stands_for views (λ place other at_other. (rule.each place other at_other).few_over) in
       let no_wrap : total < 2 ^ 34 = let bound = rule.bound in let rooms = rule.rooms in omega arith in
       let longer : draws after ≡ draws view + 1 = length-append view.drawn (total ∷ []) in
       let one_more : sum_by draws (set views id after) ≡ total + 1 = let changed = sum_by-set_at draws views id view after at in omega arith in
@@ -153,7 +153,7 @@ module _ (S : Type 0) (n : ℕ) where
       let kept : List PassView = set views id left in
       let mine = rule.each id view at in
       let same : sum_by draws (kept ++ right ∷ []) ≡ sum_by draws views =
-          let changed = sum_by-set_at draws views id view left at in omega (arith, sum_by_push draws kept right) in
+      let changed = sum_by-set_at draws views id view left at in omega (arith, sum_by_push draws kept right) in
       let same_times : (x : ℕ) → sum_by (times_by x) (kept ++ right ∷ []) ≡ sum_by (times_by x) views = λ x.
       let changed = sum_by-set_at (times_by x) views id view left at in omega (arith, sum_by_push (times_by x) kept right) in record {
         word = rule.word ∙ ap (λ (x : ℕ). x ∷ []) (sym same);
@@ -180,9 +180,9 @@ module _ (S : Type 0) (n : ℕ) where
       let long = length-append view.drawn other.drawn in
       let over_both = overs-append n view.drawn other.drawn in
       let same : sum_by draws (set kept other_id spent_pass) ≡ sum_by draws views =
-          let one = sum_by-set_at draws views id view both at in
-          let two = sum_by-set_at draws kept other_id other spent_pass at_other in
-          omega arith in
+      let one = sum_by-set_at draws views id view both at in
+      let two = sum_by-set_at draws kept other_id other spent_pass at_other in
+      omega arith in
       let same_times : (x : ℕ) → sum_by (times_by x) (set kept other_id spent_pass) ≡ sum_by (times_by x) views = λ x.
       let one = sum_by-set_at (times_by x) views id view both at in
       let two = sum_by-set_at (times_by x) kept other_id other spent_pass at_other in

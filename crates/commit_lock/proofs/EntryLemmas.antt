@@ -78,7 +78,7 @@ module _ {E : Type 0} (worker : E → ℕ) where
       let whole_is : made_by worker n whole ≡ made_by worker n middle ++ rest = ap (made_by worker n) (sym b.1) ∙ made_by-append n middle b.0 in
       let middle_is : made_by worker n middle ≡ of_front ++ more = ap (made_by worker n) (sym a.1) ∙ made_by-append n front a.0 in
       let all : of_front ++ (more ++ rest) ≡ of_front ++ [] =
-          sym (append_assoc of_front more rest) ∙ (ap (λ l. l ++ rest) (sym middle_is) ∙ (sym whole_is ∙ (same ∙ sym (append-nil of_front)))) in
+      sym (append_assoc of_front more rest) ∙ (ap (λ l. l ++ rest) (sym middle_is) ∙ (sym whole_is ∙ (same ∙ sym (append-nil of_front)))) in
       let none = both_empty more rest (append_cancel_left of_front (more ++ rest) [] all) in
       whole_is ∙ (ap (λ l. made_by worker n middle ++ l) none.1 ∙ append-nil (made_by worker n middle))
 

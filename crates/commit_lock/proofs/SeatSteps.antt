@@ -264,11 +264,11 @@ module _ {V C E : Type 0} (case_of : V → C) (entries_of : V → List E) (worke
       let same : sum_by turn (set views id after) ≡ sum_by turn views = omega arith in
       let most = rule.one_holder in
       let fits : view.room + view.stands_for ≤ 2 ^ 32 - 1 =
-          let rooms = sum_by-at_most room views id view at in
-          let standing = sum_by-at_most stands_for views id view at in
-          let seats = rule.counts.standing in
-          let all = rule.counts.rooms in
-          omega arith in (
+      let rooms = sum_by-at_most room views id view at in
+      let standing = sum_by-at_most stands_for views id view at in
+      let seats = rule.counts.standing in
+      let all = rule.counts.rooms in
+      omega arith in (
         after,
         keeps,
         tt,

@@ -63,9 +63,9 @@ module _ {A : Type 0} (f : A → ℕ) where
   sum_by-some (x ∷ xs) least = dite (dec_le 1 (f x))
       (λ here. (zero, x, refl, here))
       (λ not_here.
-          let less = lt_of_not-le not_here in
-          let found = sum_by-some xs (omega (arith, sum_by-cons f x xs)) in
-          (suc found.0, found.1, found.2, found.3))
+      let less = lt_of_not-le not_here in
+      let found = sum_by-some xs (omega (arith, sum_by-cons f x xs)) in
+      (suc found.0, found.1, found.2, found.3))
 
 -- where each element adds no more to one sum than to another, the sum is no more
 pub sum_by-pointwise : {A : Type 0} (f g : A → ℕ) (xs : List A) → ((j : ℕ) (w : A) → get_elem? xs j ≡ some w → f w ≤ g w) → sum_by f xs ≤ sum_by g xs

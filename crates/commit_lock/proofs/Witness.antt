@@ -23,9 +23,9 @@ module _ {C E : Type 0} where
       let (place, it, at_place, live, all) = witness in
       dite (ℕ_discrete place id)
       (λ here.
-          let same : it ≡ view = at_one_place views id place view it at at_place here in
-          let kept = keeps (subst (λ (v : SeatView C E). 1 ≤ v.stands_for) same live) (subst (λ (v : SeatView C E). v.seen ≡ log) same all) in
-          (id, after, set_there views id view after at, kept.0, kept.1))
+      let same : it ≡ view = at_one_place views id place view it at at_place here in
+      let kept = keeps (subst (λ (v : SeatView C E). 1 ≤ v.stands_for) same live) (subst (λ (v : SeatView C E). v.seen ≡ log) same all) in
+      (id, after, set_there views id view after at, kept.0, kept.1))
       (λ apart. (place, it, set_else views id place after apart ∙ at_place, live, all))
 
   -- a view is added
@@ -47,5 +47,5 @@ module _ {C E : Type 0} where
       dite (ℕ_discrete place id)
       (λ here. stays (subst (λ (v : SeatView C E). IsBeginning v.seen both.seen) (sym (at_one_place views id place view it at at_place here)) view_begins))
       (λ not_here. dite (ℕ_discrete place other_id)
-          (λ beside. stays (subst (λ (v : SeatView C E). IsBeginning v.seen both.seen) (sym (at_one_place views other_id place other it at_other at_place beside)) other_begins))
-          (λ not_beside. (place, it, set_else kept other_id place spent not_beside ∙ (set_else views id place both not_here ∙ at_place), live, all)))
+      (λ beside. stays (subst (λ (v : SeatView C E). IsBeginning v.seen both.seen) (sym (at_one_place views other_id place other it at_other at_place beside)) other_begins))
+      (λ not_beside. (place, it, set_else kept other_id place spent not_beside ∙ (set_else views id place both not_here ∙ at_place), live, all)))

@@ -51,18 +51,17 @@ impl DrawWord {
         ensures word { IsPassOf self.now pass.new }
         ensures below { IfSome result (λ x. x < ranks_of self.now) }
         ensures appended { IfSome result (λ x. drawn pass.new ≡ drawn pass.old ++ x ∷ []) }
-        ensures over {
-            IfNone result ((x : ℕ) × (ranks_of self.now ≤ x)
-            × (drawn pass.new ≡ drawn pass.old ++ x ∷ []))
-        }
+        ensures over { IfNone result ((x : ℕ) × (ranks_of self.now ≤ x)
+            × (drawn pass.new ≡ drawn pass.old ++ x ∷ [])) }
         ensures same { KeepsPass pass.old pass.new }
         ensures none_twice { NoneTwice (drawn pass.new) }
-        ensures whole {
-            IsWholePass pass.new → IsEachBelow (length (drawn pass.new)) (drawn pass.new)
-        }
+        ensures whole { IsWholePass pass.new → IsEachBelow (length (drawn pass.new)) (drawn pass.new) }
     {
         let ranks = u64::from(self.ranks);
-        let found = self.table.shared.fetch_add::<DrawNext>(&mut pass.token, 0, 1);
+        let found = self
+            .table
+            .shared
+            .fetch_add::<DrawNext>(&mut pass.token, 0, 1);
         if found < ranks {
             Some(found as u32)
         } else {
@@ -75,14 +74,10 @@ impl DrawWord {
         requires word { IsPassOf self.now pass.old }
         requires room { 1 ≤ pass_room pass.old }
         ensures word { IfOk result (λ made. IsPassOf self.now pass.new × IsPassOf self.now made) }
-        ensures place {
-            IfOk result (λ _. (pass_room pass.new + 1 ≡ pass_room pass.old)
-            × (passes_for pass.new ≡ passes_for pass.old))
-        }
+        ensures place { IfOk result (λ _. (pass_room pass.new + 1 ≡ pass_room pass.old)
+            × (passes_for pass.new ≡ passes_for pass.old)) }
         ensures room { IfOk result (λ made. (pass_room made ≡ 0) × (passes_for made ≡ 1)) }
-        ensures drawn {
-            IfOk result (λ made. (drawn pass.new ≡ drawn pass.old) × (drawn made ≡ []))
-        }
+        ensures drawn { IfOk result (λ made. (drawn pass.new ≡ drawn pass.old) × (drawn made ≡ [])) }
         ensures refused { IfErr result (λ _. pass.new ≡ pass.old) }
     {
         let token = self.table.shared.split_seat::<SplitPass>(&mut pass.token);
@@ -102,16 +97,16 @@ impl DrawWord {
         ensures room { pass_room pass.new ≡ pass_room pass.old + pass_room other }
         ensures stands_for { passes_for pass.new ≡ passes_for pass.old + passes_for other }
         ensures none_twice { NoneTwice (drawn pass.new) }
-        ensures whole {
-            IsWholePass pass.new → IsEachBelow (length (drawn pass.new)) (drawn pass.new)
-        }
+        ensures whole { IsWholePass pass.new → IsEachBelow (length (drawn pass.new)) (drawn pass.new) }
     {
         let DrawPass {
             token,
             room,
             stands_for,
         } = other;
-        self.table.shared.join_seat::<JoinPasses>(&mut pass.token, token);
+        self.table
+            .shared
+            .join_seat::<JoinPasses>(&mut pass.token, token);
         self.table.shared.load::<ReadWord>(&mut pass.token, 0);
         pass.room += room;
         pass.stands_for += stands_for;

@@ -83,13 +83,14 @@ impl<V: Grows> CommitLock<V> {
         ensures same { KeepsPlace seat.old seat.new × (seen seat.new ≡ seen seat.old) }
         ensures case { V.case result ≡ case_of V.case self.now }
         ensures seen { IsBeginning (seen seat.old) (V.entries result) }
-        ensures own {
-            made_by V.worker (number seat.old) (V.entries result)
-            ≡ made_by V.worker (number seat.old) (seen seat.old)
-        }
+        ensures own { made_by V.worker (number seat.old) (V.entries result)
+            ≡ made_by V.worker (number seat.old) (seen seat.old) }
     {
         for _ in rt.forever() {
-            let found = self.table.shared.fetch_or::<TakeTurn>(&mut seat.token, 0, 1);
+            let found = self
+                .table
+                .shared
+                .fetch_or::<TakeTurn>(&mut seat.token, 0, 1);
             if found % 2 == 0 {
                 let Some(value) = self.table.shared.exchange(&mut seat.token, 0, None) else {
                     unreachable!()
@@ -113,7 +114,9 @@ impl<V: Grows> CommitLock<V> {
         ensures seen { seen seat.new ≡ V.entries value }
     {
         self.table.shared.exchange(&mut seat.token, 0, Some(value));
-        self.table.shared.fetch_and::<GiveTurn>(&mut seat.token, 0, u64::MAX - 1);
+        self.table
+            .shared
+            .fetch_and::<GiveTurn>(&mut seat.token, 0, u64::MAX - 1);
     }
 
     /// Splits a new seat from this one. Today it never refuses.
@@ -123,16 +126,12 @@ impl<V: Grows> CommitLock<V> {
         requires room { 1 ≤ seat_room seat.old }
         ensures lock { IfOk result (λ made. IsSeatOf self.now seat.new × IsSeatOf self.now made) }
         ensures idle { IfOk result (λ made. IsIdle seat.new × IsIdle made) }
-        ensures place {
-            IfOk result (λ _. (number seat.new ≡ number seat.old)
+        ensures place { IfOk result (λ _. (number seat.new ≡ number seat.old)
             × (seat_room seat.new + 1 ≡ seat_room seat.old)
-            × (seats_for seat.new ≡ seats_for seat.old))
-        }
+            × (seats_for seat.new ≡ seats_for seat.old)) }
         ensures number { IfOk result (λ made. number made ≢ number seat.old) }
         ensures room { IfOk result (λ made. (seat_room made ≡ 0) × (seats_for made ≡ 1)) }
-        ensures seen {
-            IfOk result (λ made. (seen seat.new ≡ seen seat.old) × (seen made ≡ seen seat.old))
-        }
+        ensures seen { IfOk result (λ made. (seen seat.new ≡ seen seat.old) × (seen made ≡ seen seat.old)) }
         ensures no_own { IfOk result (λ made. made_by V.worker (number made) (seen made) ≡ []) }
         ensures refused { IfErr result (λ _. seat.new ≡ seat.old) }
     {
@@ -159,10 +158,8 @@ impl<V: Grows> CommitLock<V> {
         ensures seen { seen seat.new ≡ longer (seen seat.old) (seen other) }
         ensures seen_before { IsBeginning (seen seat.old) (seen seat.new) }
         ensures seen_by_other { IsBeginning (seen other) (seen seat.new) }
-        ensures own {
-            made_by V.worker (number seat.old) (seen seat.new)
-            ≡ made_by V.worker (number seat.old) (seen seat.old)
-        }
+        ensures own { made_by V.worker (number seat.old) (seen seat.new)
+            ≡ made_by V.worker (number seat.old) (seen seat.old) }
     {
         let Seat {
             token,
@@ -170,7 +167,9 @@ impl<V: Grows> CommitLock<V> {
             room,
             stands_for,
         } = other;
-        self.table.shared.join_seat::<JoinSeats>(&mut seat.token, token);
+        self.table
+            .shared
+            .join_seat::<JoinSeats>(&mut seat.token, token);
         self.table.shared.load::<SettleJoin>(&mut seat.token, 0);
         seat.room += room;
         seat.stands_for += stands_for;

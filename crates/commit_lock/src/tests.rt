@@ -71,10 +71,8 @@ fn split_off(
     ensures room { IfOk result (λ _. seat_room first.new + count ≡ seat_room first.old) }
     ensures stands_for { IfOk result (λ _. seats_for first.new ≡ seats_for first.old) }
     ensures count { IfOk result (λ seats. vec_len seats ≡ count) }
-    ensures split {
-        IfOk result (λ seats. All (λ seat. IsSeatOf lock.now seat × IsIdle seat
-        × (seat_room seat ≡ 0) × (seats_for seat ≡ 1)) seats.items)
-    }
+    ensures split { IfOk result (λ seats. All (λ seat. IsSeatOf lock.now seat × IsIdle seat
+        × (seat_room seat ≡ 0) × (seats_for seat ≡ 1)) seats.items) }
 {
     let mut seats = Vec::new(alloc);
     for _ in 0..count {
@@ -90,28 +88,20 @@ fn write_at_once<R: Threads + Wait + Sync>(
     lock: &CommitLock<Book>,
     seats: Vec<Seat<Book>>,
 ) -> Result<Vec<Seat<Book>>, AllocError>
-    requires {
-        All (λ seat. IsSeatOf lock.now seat × IsIdle seat
-        × (seat_room seat ≡ 0) × (seats_for seat ≡ 1)) seats.items
-    }
+    requires { All (λ seat. IsSeatOf lock.now seat × IsIdle seat
+        × (seat_room seat ≡ 0) × (seats_for seat ≡ 1)) seats.items }
     ensures count { IfOk result (λ after. vec_len after ≡ vec_len seats) }
-    ensures split {
-        IfOk result (λ after. All (λ seat. IsSeatOf lock.now seat × IsIdle seat
-        × (seat_room seat ≡ 0) × (seats_for seat ≡ 1)) after.items)
-    }
+    ensures split { IfOk result (λ after. All (λ seat. IsSeatOf lock.now seat × IsIdle seat
+        × (seat_room seat ≡ 0) × (seats_for seat ≡ 1)) after.items) }
 {
     thread::map_vec(
         rt,
         seats,
         &|seat: Seat<Book>| -> Seat<Book>
-            requires {
-                IsSync R.row × IsSeatOf lock.now seat × IsIdle seat
-                × (seat_room seat ≡ 0) × (seats_for seat ≡ 1)
-            }
-            ensures {
-                IsSeatOf lock.entry.now result × IsIdle result
-                × (seat_room result ≡ 0) × (seats_for result ≡ 1)
-            }
+            requires { IsSync R.row × IsSeatOf lock.now seat × IsIdle seat
+                × (seat_room seat ≡ 0) × (seats_for seat ≡ 1) }
+            ensures { IsSeatOf lock.entry.now result × IsIdle result
+                × (seat_room result ≡ 0) × (seats_for result ≡ 1) }
         { write_all(rt, lock, seat, TURNS) },
     )
 }
@@ -119,13 +109,9 @@ fn write_at_once<R: Threads + Wait + Sync>(
 // Joins all seats into the first, which is whole then.
 fn gather(lock: &CommitLock<Book>, first: &mut Seat<Book>, mut seats: Vec<Seat<Book>>)
     requires lock { IsSeatOf lock.now first.old × IsIdle first.old }
-    requires split {
-        All (λ seat. IsSeatOf lock.now seat × IsIdle seat
-        × (seat_room seat ≡ 0) × (seats_for seat ≡ 1)) seats.items
-    }
-    requires whole {
-        seat_room first.old + seats_for first.old + vec_len seats ≡ 2 ^ 32 - 1
-    }
+    requires split { All (λ seat. IsSeatOf lock.now seat × IsIdle seat
+        × (seat_room seat ≡ 0) × (seats_for seat ≡ 1)) seats.items }
+    requires whole { seat_room first.old + seats_for first.old + vec_len seats ≡ 2 ^ 32 - 1 }
     ensures lock { IsSeatOf lock.now first.new × IsIdle first.new }
     ensures whole { IsWholeSeat first.new }
 {
@@ -151,7 +137,11 @@ fn eight_threads_lose_no_entry(rt: HostRuntime) -> Result<(), Fail> {
     };
     assert_eq!(rt; (book.name, book.log.len()), (5, 8000));
     for number in 1..9 {
-        let texts = book.log.iter().filter(|entry| entry.0 == number).map(|entry| entry.1);
+        let texts = book
+            .log
+            .iter()
+            .filter(|entry| entry.0 == number)
+            .map(|entry| entry.1);
         assert!(rt; texts.eq(0..TURNS), "the entries of seat {number}");
     }
     Ok(())
@@ -166,14 +156,30 @@ fn two_seats_and_what_they_stand_for(rt: HostRuntime) -> Result<(), Fail> {
     let Ok((lock, mut first)) = CommitLock::new(rt.alloc(), book) else {
         panic!(rt; "no memory for the lock")
     };
-    assert_eq!(rt; (first.number(), first.room(), first.stands_for()), (0, u32::MAX - 1, 1), "new");
+    assert_eq!(rt;
+        (first.number(), first.room(), first.stands_for()),
+        (0, u32::MAX - 1, 1),
+        "new"
+    );
     let mut second = lock.split(&mut first)?;
-    assert_eq!(rt; (second.number(), second.room(), second.stands_for()), (1, 0, 1), "split off");
+    assert_eq!(rt;
+        (second.number(), second.room(), second.stands_for()),
+        (1, 0, 1),
+        "split off"
+    );
     write(&rt, &lock, &mut first, 7);
     write(&rt, &lock, &mut second, 8);
-    assert_eq!(rt; first.room() + first.stands_for(), u32::MAX - 1, "before the join");
+    assert_eq!(rt;
+        first.room() + first.stands_for(),
+        u32::MAX - 1,
+        "before the join"
+    );
     lock.join(&mut first, second);
-    assert_eq!(rt; first.room() + first.stands_for(), u32::MAX, "after the join");
+    assert_eq!(rt;
+        first.room() + first.stands_for(),
+        u32::MAX,
+        "after the join"
+    );
     let Ok(book) = lock.close(first) else {
         panic!(rt; "the lock was not closed")
     };
@@ -188,8 +194,16 @@ fn three_draws_of_two_ranks(rt: HostRuntime) -> Result<(), Fail> {
     assert_eq!(rt; word.draw(&mut first), Some(0), "by the first pass");
     assert_eq!(rt; word.draw(&mut second), Some(1), "by the second");
     assert_eq!(rt; word.draw(&mut first), None, "by the first again");
-    assert_eq!(rt; first.room() + first.stands_for(), u32::MAX - 1, "before the join");
+    assert_eq!(rt;
+        first.room() + first.stands_for(),
+        u32::MAX - 1,
+        "before the join"
+    );
     word.join(&mut first, second);
-    assert_eq!(rt; (first.room(), first.stands_for()), (u32::MAX - 2, 2), "after the join");
+    assert_eq!(rt;
+        (first.room(), first.stands_for()),
+        (u32::MAX - 2, 2),
+        "after the join"
+    );
     Ok(())
 }

@@ -13,8 +13,7 @@ fetch_and-requires g c =
     let now = c.exchange.ensures.3 in
     let view = ap (λ z. z.0) now in
     let slot = ap (λ z. z.1) now ∙ ap (λ (l : List (ℕ × Option g.row.V.Denot)). (0, Some value) ∷ rest l) c.requires.turn.2 in
-    let may = subst (λ v. MayLeave case_of entries_of worker v value) (sym view) (c.requires.lock.1 ∙ ap Some (sym c.requires.case), c.requires.grown) in
-    (
+    let may = subst (λ v. MayLeave case_of entries_of worker v value) (sym view) (c.requires.lock.1 ∙ ap Some (sym c.requires.case), c.requires.grown) in (
       c.exchange.ensures.0 ∙ c.requires.lock.0,
       search rules,
       gives_by case_of entries_of worker _ _ _ 18446744073709551614 0 c.exchange.new.seat.me value slot (search rules)
