@@ -1,5 +1,5 @@
 -- What a seat has once it took the turn, and then the value out of the slot.
-use Rattle.std.proofs.Common.{◌≡◌, ◌%◌, ◌==◌, ℕ, Bool, List, [], ◌∷◌, Option, Some, None, MatchBool, sym, ap, ◌∙◌, subst, eq-eqb}
+use Rattle.std.proofs.Common.{◌≡◌, ◌%◌, ℕ, Bool, List, [], ◌∷◌, Option, Some, None, MatchBool, sym, ap, ◌∙◌, subst, eq-eqb}
 use Rattle.atomic_table.specs.Table.{Me, Step, rest}
 use Rattle.commit_lock.specs.declared.lock.SeatView.{SeatView}
 use Rattle.commit_lock.specs.Inside.LockSteps.{with_turn, IsFoundBy, IsTaken, TakesTurn}

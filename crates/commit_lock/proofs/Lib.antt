@@ -4,6 +4,7 @@ pub mod Words
 pub mod DrawSteps
 pub mod EntryLemmas
 pub mod SeatNumbers
+pub mod SeatCounts
 pub mod Witness
 pub mod TurnSteps
 pub mod SeatSteps

@@ -1,6 +1,5 @@
 -- The numbers of seats: live ones differ, and all were drawn.
-use Rattle.std.proofs.Common.{◌≡◌, ◌≢◌, ◌==◌, ◌+◌, ◌*◌, ◌^◌, ◌<◌, ◌≤◌, ℕ, Bool, List, set, cond, refl, ap, ◌∙◌, arith, ne_eqb, eq-eqb}
-use Rattle.std.specs.List.{sum_by}
+use Rattle.std.proofs.Common.{◌≡◌, ◌≢◌, ◌==◌, ◌*◌, ◌^◌, ◌<◌, ◌≤◌, ℕ, Bool, List, set, cond, refl, ap, ◌∙◌, arith, ne_eqb, eq-eqb}
 use mathlib.Core.Option.{some}
 use lib.ListN.{get_elem?}
 use Rattle.commit_lock.specs.declared.lock.SeatView.{SeatView}

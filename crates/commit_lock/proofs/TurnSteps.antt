@@ -1,5 +1,5 @@
 -- A new lock has its rule, and the steps that take the turn and give it back keep it.
-use Rattle.std.proofs.Common.{◌≡◌, ◌≢◌, ◌==◌, ◌%◌, ◌-◌, ◌+◌, ◌*◌, ◌^◌, ◌<◌, ◌≤◌, ℕ, Bool, List, [], ◌∷◌, ◌++◌, length, set, slice_index, cond, bit_or, bit_and, Option, Some, None, refl, sym, ap, ◌∙◌, subst, arith, ne_eqb}
+use Rattle.std.proofs.Common.{◌≡◌, ◌≢◌, ◌%◌, ◌-◌, ◌+◌, ◌*◌, ◌^◌, ◌<◌, ℕ, List, [], ◌∷◌, ◌++◌, length, set, slice_index, bit_or, bit_and, Option, Some, None, refl, sym, ap, ◌∙◌, subst, arith}
 use Rattle.std.specs.List.{sum_by}
 use mathlib.Core.Logic.{dite}
 use mathlib.Core.Option as maybe
@@ -9,7 +9,7 @@ use Rattle.atomic_table.specs.Table.{State, Me, Act, Valid, carried_after, step,
 use Rattle.atomic_table.proofs.Lists.{set_again}
 use Rattle.commit_lock.specs.declared.lock.SeatView.{SeatView}
 use Rattle.commit_lock.specs.Entries.{IsBeginning, made_by}
-use Rattle.commit_lock.specs.Inside.LockRule.{turn, lives_as, first_seat, Knows, Counts, LockRule}
+use Rattle.commit_lock.specs.Inside.LockRule.{turn, first_seat, Knows, Counts, LockRule}
 use Rattle.commit_lock.specs.Inside.LockSteps.{with_turn, without_turn, Rests, TakesTurn, GivesTurn, MayLeave}
 use Rattle.commit_lock.proofs.Sums.{sum_by-set_at, sum_by-at_most, sum_by-two_at_most}
 use Rattle.commit_lock.proofs.Views.{only_one, set_there, each_changed}

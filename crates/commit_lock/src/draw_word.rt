@@ -1,4 +1,4 @@
-//! The word from which numbers are drawn, the passes of those who draw, and what the proofs know of each pass.
+//! The word from which numbers are drawn, its passes, and what the proofs know of each pass.
 ghost use Rattle.std.specs.Prelude.{◌≡◌, ◌≤◌, []};
 
 use atomic_table::{Join, Play, Split, Table, TableRule};

@@ -1,5 +1,5 @@
 //! What a pass does at its draw word.
-ghost use Rattle.std.specs.Prelude.{◌≡◌, ◌≤◌, ◌<◌, ◌+◌, ◌++◌, ℕ, [], ◌∷◌};
+ghost use Rattle.std.specs.Prelude.{◌≡◌, ◌≤◌, ◌<◌, ◌+◌, ◌-◌, ◌^◌, ◌++◌, ℕ, [], ◌∷◌};
 ghost use Rattle.std.specs.Prelude.{All, IfOk, IfErr, IfSome, IfNone, length};
 ghost use Rattle.commit_lock.specs.Passes.{ranks_of, IsPassOf, drawn, pass_room, passes_for};
 ghost use Rattle.commit_lock.specs.Passes.{IsWholePass, KeepsPass, NoneTwice, IsEachBelow};
@@ -30,7 +30,7 @@ impl DrawWord {
         ensures ranks { IfOk result (λ made. ranks_of made.0 ≡ ranks) }
         ensures word { IfOk result (λ made. IsPassOf made.0 made.1) }
         ensures drawn { IfOk result (λ made. drawn made.1 ≡ []) }
-        ensures room { IfOk result (λ made. pass_room made.1 ≡ 4294967294) }
+        ensures room { IfOk result (λ made. pass_room made.1 ≡ 2 ^ 32 - 2) }
         ensures stands_for { IfOk result (λ made. passes_for made.1 ≡ 1) }
     {
         let (table, token) = Table::of_words(alloc, &[0], &ranks)?;
@@ -55,7 +55,8 @@ impl DrawWord {
             × (drawn pass.new ≡ drawn pass.old ++ x ∷ [])) }
         ensures same { KeepsPass pass.old pass.new }
         ensures none_twice { NoneTwice (drawn pass.new) }
-        ensures whole { IsWholePass pass.new → IsEachBelow (length (drawn pass.new)) (drawn pass.new) }
+        ensures whole { IsWholePass pass.new
+            → IsEachBelow (length (drawn pass.new)) (drawn pass.new) }
     {
         let ranks = u64::from(self.ranks);
         let found = self
@@ -77,7 +78,8 @@ impl DrawWord {
         ensures place { IfOk result (λ _. (pass_room pass.new + 1 ≡ pass_room pass.old)
             × (passes_for pass.new ≡ passes_for pass.old)) }
         ensures room { IfOk result (λ made. (pass_room made ≡ 0) × (passes_for made ≡ 1)) }
-        ensures drawn { IfOk result (λ made. (drawn pass.new ≡ drawn pass.old) × (drawn made ≡ [])) }
+        ensures drawn { IfOk result (λ made. (drawn pass.new ≡ drawn pass.old)
+            × (drawn made ≡ [])) }
         ensures refused { IfErr result (λ _. pass.new ≡ pass.old) }
     {
         let token = self.table.shared.split_seat::<SplitPass>(&mut pass.token);
@@ -97,7 +99,8 @@ impl DrawWord {
         ensures room { pass_room pass.new ≡ pass_room pass.old + pass_room other }
         ensures stands_for { passes_for pass.new ≡ passes_for pass.old + passes_for other }
         ensures none_twice { NoneTwice (drawn pass.new) }
-        ensures whole { IsWholePass pass.new → IsEachBelow (length (drawn pass.new)) (drawn pass.new) }
+        ensures whole { IsWholePass pass.new
+            → IsEachBelow (length (drawn pass.new)) (drawn pass.new) }
     {
         let DrawPass {
             token,

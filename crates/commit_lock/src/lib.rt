@@ -16,7 +16,8 @@ fn is_send<T: Send>(_: &T) {}
 
 fn is_sync<T: Sync>(_: &T) {}
 
-/// Compiles only if threads may share a lock and a draw word, and hand on all four types. Nothing calls it.
+/// Nothing calls this. It compiles only if threads may share a lock and a draw word, and may hand
+/// on all four types.
 #[allow(dead_code)]
 fn crosses_threads<V: Grows>(
     lock: &CommitLock<V>,

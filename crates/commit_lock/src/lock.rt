@@ -36,7 +36,7 @@ pub(crate) struct SeatView<C, E> {
     pub(crate) entered: LinkedList<E>,
     pub(crate) room: u64,
     pub(crate) stands_for: u64,
-    // what this seat had seen before its last join, what the other one had, and the other one's number
+    // at its last join: what it had seen before, what the other seat had, and the other's number
     pub(crate) before: LinkedList<E>,
     pub(crate) beside: LinkedList<E>,
     pub(crate) partner: u64,

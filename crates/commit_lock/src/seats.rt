@@ -1,5 +1,5 @@
 //! What a seat does at its lock.
-ghost use Rattle.std.specs.Prelude.{◌≡◌, ◌≢◌, ◌≤◌, ◌+◌, [], IfOk, IfErr};
+ghost use Rattle.std.specs.Prelude.{◌≡◌, ◌≢◌, ◌≤◌, ◌+◌, ◌-◌, ◌^◌, [], IfOk, IfErr};
 ghost use Rattle.commit_lock.specs.declared.lock.CloseFault.TheVariants.{OutOfMemory};
 ghost use Rattle.commit_lock.specs.Entries.{IsBeginning, GrowsBy, made_by, longer};
 ghost use Rattle.commit_lock.specs.Seats.{case_of, IsSeatOf, IsIdle, HasTurn, IsWholeSeat};
@@ -14,7 +14,7 @@ use std::sync::Wait;
 use std::thread::yield_now;
 
 impl<V: Grows> Seat<V> {
-    /// The number that the entries of this seat carry. No other seat of the lock has it.
+    /// The number that the entries of this seat carry.
     pub fn number(&self) -> u32
         ensures { result ≡ number self.now }
     {
@@ -37,13 +37,14 @@ impl<V: Grows> Seat<V> {
 }
 
 impl<V: Grows> CommitLock<V> {
-    /// Puts a value without entries under a lock, and gives the first seat. Gives the value back if memory runs out.
+    /// Puts a value without entries under a lock, and gives the first seat. If memory runs out, it
+    /// gives the value back.
     pub fn new(alloc: Global, value: V) -> Result<(CommitLock<V>, Seat<V>), V>
         requires { V.entries value ≡ [] }
         ensures case { IfOk result (λ made. case_of V.case made.0 ≡ V.case value) }
         ensures lock { IfOk result (λ made. IsSeatOf made.0 made.1 × IsIdle made.1) }
         ensures seat { IfOk result (λ made. (number made.1 ≡ 0) × (seen made.1 ≡ [])) }
-        ensures room { IfOk result (λ made. seat_room made.1 ≡ 4294967294) }
+        ensures room { IfOk result (λ made. seat_room made.1 ≡ 2 ^ 32 - 2) }
         ensures stands_for { IfOk result (λ made. seats_for made.1 ≡ 1) }
         ensures refused { IfErr result (λ back. back ≡ value) }
     {
@@ -131,7 +132,8 @@ impl<V: Grows> CommitLock<V> {
             × (seats_for seat.new ≡ seats_for seat.old)) }
         ensures number { IfOk result (λ made. number made ≢ number seat.old) }
         ensures room { IfOk result (λ made. (seat_room made ≡ 0) × (seats_for made ≡ 1)) }
-        ensures seen { IfOk result (λ made. (seen seat.new ≡ seen seat.old) × (seen made ≡ seen seat.old)) }
+        ensures seen { IfOk result (λ made. (seen seat.new ≡ seen seat.old)
+            × (seen made ≡ seen seat.old)) }
         ensures no_own { IfOk result (λ made. made_by V.worker (number made) (seen made) ≡ []) }
         ensures refused { IfErr result (λ _. seat.new ≡ seat.old) }
     {
@@ -175,7 +177,8 @@ impl<V: Grows> CommitLock<V> {
         seat.stands_for += stands_for;
     }
 
-    /// Ends the lock, once every other seat was joined into this one, and gives the value. Today it never refuses.
+    /// Ends the lock once every other seat was joined into this one, and gives the value. Today it
+    /// never refuses.
     pub fn close(self, seat: Seat<V>) -> Result<V, CloseFault<V>>
         requires lock { IsSeatOf self seat }
         requires idle { IsIdle seat }

@@ -6,11 +6,9 @@ use lib.ListN.{get_elem?}
 use Rattle.atomic_table.specs.Table.{State, Me, Step}
 use Rattle.commit_lock.specs.declared.draw_word.PassView.{PassView}
 use Rattle.commit_lock.specs.Passes.{times, NoneTwice, IsEachBelow}
+use Rattle.commit_lock.specs.Inside.LockRule.{most}
 
--- the most passes that a draw word can make
-abbrev pub most : ℕ
-most = 2 ^ 32 - 1
-
+-- how many numbers it drew
 abbrev pub draws : PassView → ℕ
 draws view = length view.drawn
 
@@ -81,7 +79,8 @@ pub record DrawRule (n : ℕ) {S : Type 0} (state : State S PassView) : Type 0 w
   pub once : (x : ℕ) → x < sum_by draws state.views → sum_by (times_by x) state.views ≡ 1
   -- and no other
   pub never : (x : ℕ) → sum_by draws state.views ≤ x → sum_by (times_by x) state.views ≡ 0
-  pub each : (place : ℕ) (view : PassView) → get_elem? state.views place ≡ maybe.some view → Fits n view
+  pub each : (place : ℕ) (view : PassView) → get_elem? state.views place ≡ maybe.some view
+      → Fits n view
   -- no more than this number of passes is ever made
   pub rooms : sum_by room state.views + sum_by stands_for state.views ≡ most
   -- so the word never wraps: all but n draws went past the last rank

@@ -1,4 +1,4 @@
--- The rule of a lock: what holds of its turn word, its slot and the views of its seats between any two steps.
+-- The rule of a lock: what holds of its turn word, its slot and its seats between any two steps.
 use Rattle.std.specs.Prelude.{◌≡◌, ◌≢◌, ◌==◌, ◌+◌, ◌-◌, ◌*◌, ◌^◌, ◌<◌, ◌≤◌, ℕ, List, [], ◌∷◌, Option, Some, if◌then◌else◌}
 use Rattle.std.specs.List.{sum_by}
 use mathlib.Core.Option as maybe
@@ -7,7 +7,7 @@ use Rattle.atomic_table.specs.Table.{State}
 use Rattle.commit_lock.specs.declared.lock.SeatView.{SeatView}
 use Rattle.commit_lock.specs.Entries.{IsBeginning, made_by}
 
--- the most seats that a lock can make
+-- the most seats that a lock can make, and the most passes that a draw word can make
 abbrev pub most : ℕ
 most = 2 ^ 32 - 1
 
@@ -47,14 +47,16 @@ module _ {C E : Type 0} where
       (place : ℕ) × (view : SeatView C E) × (get_elem? views place ≡ maybe.some view)
       × (1 ≤ view.stands_for) × (view.seen ≡ log)
 
--- The numbers of seats. A room is counted for each seat that may still be split off, and for one that has no number yet.
+-- The numbers of seats. A room is a seat that may still be split off, or one that was split off and
+-- has no number yet.
 pub record Counts {C E : Type 0} (made : ℕ) (views : List (SeatView C E)) : Type 0 where
   -- two live seats have different numbers
   pub apart : (number : ℕ) → sum_by (lives_as number) views ≤ 1
   -- no live seat has a number that was not drawn
   pub drawn : (number : ℕ) → made ≤ number → sum_by (lives_as number) views ≡ 0
   -- the number of every view was drawn
-  pub below : (place : ℕ) (view : SeatView C E) → get_elem? views place ≡ maybe.some view → view.number < made
+  pub below : (place : ℕ) (view : SeatView C E) → get_elem? views place ≡ maybe.some view
+      → view.number < made
   -- the live seats stand for all seats that were made
   pub standing : sum_by stands_for views ≡ made
   -- so no more than this number of seats is ever made, and the turn word never wraps
@@ -64,7 +66,8 @@ module _ {V C E : Type 0} (case_of : V → C) (entries_of : V → List E) (worke
   -- the value is in the slot, and no seat has the slot
   abbrev pub IsAtHome : List E → List (maybe.Option (Option V)) → Type 0
   IsAtHome log homes =
-      (value : V) × (homes ≡ maybe.some (Some value) ∷ []) × (case_of value ≡ key) × (entries_of value ≡ log)
+      (value : V) × (homes ≡ maybe.some (Some value) ∷ [])
+      × (case_of value ≡ key) × (entries_of value ≡ log)
 
   -- What one seat knows of all entries that were made.
   pub record Knows (log : List E) (view : SeatView C E) : Type 0 where
@@ -79,7 +82,8 @@ module _ {V C E : Type 0} (case_of : V → C) (entries_of : V → List E) (worke
     pub entered : view.turn ≡ 1 → view.entered ≡ log
     -- a live seat stands for itself at least
     pub standing : view.live ≤ view.stands_for
-    -- at its last join both seats had seen beginnings of what it has seen now, and its own entries stayed the same
+    -- at its last join both seats had seen beginnings of what it has seen now, and its own entries
+    -- stayed the same
     pub before : IsBeginning view.before view.seen
     pub beside : IsBeginning view.beside view.seen
     pub kept : made_by worker view.number view.seen ≡ made_by worker view.number view.before
@@ -98,7 +102,8 @@ module _ {V C E : Type 0} (case_of : V → C) (entries_of : V → List E) (worke
     pub free : sum_by turn state.views ≡ 0 → IsAtHome log state.homes
     -- while a seat holds it, no value is at home
     pub held : sum_by turn state.views ≡ 1 → state.homes ≡ maybe.none ∷ []
-    pub each : (place : ℕ) (view : SeatView C E) → get_elem? state.views place ≡ maybe.some view → Knows log view
+    pub each : (place : ℕ) (view : SeatView C E) → get_elem? state.views place ≡ maybe.some view
+        → Knows log view
     pub counts : Counts made state.views
     -- the number of every entry was drawn
     pub numbers : (number : ℕ) → made ≤ number → made_by worker number log ≡ []

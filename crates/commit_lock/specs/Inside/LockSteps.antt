@@ -12,11 +12,27 @@ module _ {C E : Type 0} where
 
   -- the seat that was split off: it has room for its own number, which it has yet to draw
   abbrev pub unnumbered : SeatView C E → SeatView C E
-  unnumbered view = record view { live = 0; turn = 0; entered = []; room = 1; stands_for = 0; before = view.seen; beside = [] }
+  unnumbered view = record view {
+    live = 0;
+    turn = 0;
+    entered = [];
+    room = 1;
+    stands_for = 0;
+    before = view.seen;
+    beside = [];
+  }
 
   -- the same seat with its number, for which it gives the room up
   abbrev pub numbered : ℕ → SeatView C E → SeatView C E
-  numbered number view = record view { number = number; live = 1; room = 0; stands_for = 1; before = view.seen; beside = []; partner = number + 1 }
+  numbered number view = record view {
+    number = number;
+    live = 1;
+    room = 0;
+    stands_for = 1;
+    before = view.seen;
+    beside = [];
+    partner = number + 1;
+  }
 
   -- the seat that stays at a join, and what it notes of the other
   abbrev pub joined : (List E → List E → List E) → SeatView C E → SeatView C E → SeatView C E
@@ -59,10 +75,17 @@ module _ {C E : Type 0} where
 
   -- the seat after it gave the turn back, which has seen these entries
   abbrev pub without_turn : List E → SeatView C E → SeatView C E
-  without_turn entries view = record view { turn = 0; seen = entries; entered = []; before = entries; beside = [] }
+  without_turn entries view = record view {
+    turn = 0;
+    seen = entries;
+    entered = [];
+    before = entries;
+    beside = [];
+  }
 
 module _ {V C E : Type 0} (case_of : V → C) (entries_of : V → List E) (worker : E → ℕ) where
-  -- the value has the seat's case, begins with all that the seat had seen, and has of its own entries exactly those
+  -- the value has the seat's case, and begins with all that the seat had seen, which has each of its
+  -- own entries
   abbrev pub IsFoundBy : SeatView C E → V → Type 0
   IsFoundBy view value =
       ((c : C) → view.case ≡ Some c → case_of value ≡ c)
@@ -72,31 +95,41 @@ module _ {V C E : Type 0} (case_of : V → C) (entries_of : V → List E) (worke
   -- the turn was free, and the seat has it now, with the slot and the value in it
   abbrev pub IsTaken : Me (Option V) (SeatView C E) → Me (Option V) (SeatView C E) → Type 0
   IsTaken me after =
-      (value : V) × IsFoundBy me.0 value × (after ≡ (with_turn (entries_of value) me.0, (0, Some value) ∷ []))
+      (value : V) × IsFoundBy me.0 value
+      × (after ≡ (with_turn (entries_of value) me.0, (0, Some value) ∷ []))
 
   -- an even word was free; at an odd one nothing changes
-  abbrev pub TakesTurn : Step (Option V) → Me (Option V) (SeatView C E) → ℕ → Me (Option V) (SeatView C E) → Type 0
+  abbrev pub TakesTurn : Step (Option V) → Me (Option V) (SeatView C E) → ℕ
+      → Me (Option V) (SeatView C E) → Type 0
   TakesTurn step me found after = MatchBool (found % 2 == 0) (IsTaken me after) (after ≡ me)
 
   -- the value has the seat's case, and what it entered with has grown by its own entries
   abbrev pub MayLeave : SeatView C E → V → Type 0
-  MayLeave view value = (view.case ≡ Some (case_of value)) × GrowsBy worker view.number view.entered (entries_of value)
+  MayLeave view value =
+      (view.case ≡ Some (case_of value))
+      × GrowsBy worker view.number view.entered (entries_of value)
 
 module _ {V C E : Type 0} (entries_of : V → List E) where
   -- the seat has seen the entries of the value that it left in the slot
-  abbrev pub GivesTurn : Step (Option V) → Me (Option V) (SeatView C E) → ℕ → Me (Option V) (SeatView C E) → Type 0
-  GivesTurn step me found after = (value : V) → me.1 ≡ (0, Some value) ∷ [] → after ≡ (without_turn (entries_of value) me.0, [])
+  abbrev pub GivesTurn : Step (Option V) → Me (Option V) (SeatView C E) → ℕ
+      → Me (Option V) (SeatView C E) → Type 0
+  GivesTurn step me found after =
+      (value : V) → me.1 ≡ (0, Some value) ∷ [] → after ≡ (without_turn (entries_of value) me.0, [])
 
 module _ {C E : Type 0} (worker : E → ℕ) where
   -- the number drawn is half the word; it is new, and no entry that was seen carries it
-  abbrev pub DrawsNumber : {S : Type 0} → Step S → Me S (SeatView C E) → ℕ → Me S (SeatView C E) → Type 0
+  abbrev pub DrawsNumber : {S : Type 0} → Step S → Me S (SeatView C E) → ℕ
+      → Me S (SeatView C E) → Type 0
   DrawsNumber step me found after =
-      (found / 2 < 2 ^ 32) × (me.0.number ≢ found / 2) × (made_by worker (found / 2) me.0.seen ≡ [])
+      (found / 2 < 2 ^ 32) × (me.0.number ≢ found / 2)
+      × (made_by worker (found / 2) me.0.seen ≡ [])
       × (after ≡ (numbered (found / 2) me.0, me.1))
 
   -- what a seat is told after a join
-  abbrev pub SettlesJoin : {S : Type 0} → Step S → Me S (SeatView C E) → ℕ → Me S (SeatView C E) → Type 0
+  abbrev pub SettlesJoin : {S : Type 0} → Step S → Me S (SeatView C E) → ℕ
+      → Me S (SeatView C E) → Type 0
   SettlesJoin step me found after =
       IsBeginning me.0.before me.0.seen × IsBeginning me.0.beside me.0.seen
       × (made_by worker me.0.number me.0.seen ≡ made_by worker me.0.number me.0.before)
-      × (me.0.partner ≢ me.0.number) × (me.0.room + me.0.stands_for ≤ most) × (after ≡ (settled me.0, me.1))
+      × (me.0.partner ≢ me.0.number) × (me.0.room + me.0.stands_for ≤ most)
+      × (after ≡ (settled me.0, me.1))
