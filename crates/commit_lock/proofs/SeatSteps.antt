@@ -55,12 +55,13 @@ module _ {V C E : Type 0} (case_of : V → C) (entries_of : V → List E) (worke
               entered = λ e. absurd (omega arith);
               standing = omega arith;
               before = begins_itself view.seen;
-              beside = (view.seen, refl);
+              beside = begins_itself view.seen;
               kept = refl;
+              kept_beside = refl;
               partner = λ e. absurd (omega arith);
             })
             (each_changed (Known rule.log) views id left
-            (record { case = mine.case; seen = mine.seen; own = mine.own; holder = mine.holder; entered = mine.entered; standing = mine.standing; before = mine.before; beside = mine.beside; kept = mine.kept; partner = mine.partner })
+            (record { case = mine.case; seen = mine.seen; own = mine.own; holder = mine.holder; entered = mine.entered; standing = mine.standing; before = mine.before; beside = mine.beside; kept = mine.kept; kept_beside = mine.kept_beside; partner = mine.partner })
             (λ place other apart at_other. rule.each place other at_other));
         counts = split_counts made views id view at roomy rule.counts;
         numbers = rule.numbers;
@@ -102,8 +103,9 @@ module _ {V C E : Type 0} (case_of : V → C) (entries_of : V → List E) (worke
                 entered = λ e. absurd (omega arith);
                 standing = omega arith;
                 before = begins_itself view.seen;
-                beside = (view.seen, refl);
+                beside = begins_itself view.seen;
                 kept = refl;
+                kept_beside = refl;
                 partner = λ _ e. omega arith;
               })
               (λ place other apart at_other. rule.each place other at_other);
@@ -138,7 +140,10 @@ module _ {V C E : Type 0} (case_of : V → C) (entries_of : V → List E) (worke
       let mine = rule.each id view at in
       let its = rule.each other_id other was_there in
       let (begins, view_begins, other_begins) = merged view.seen other.seen log mine.seen its.seen in
-      let of_all : made_by worker view.number log ≡ made_by worker view.number both.seen = made_by-between worker view.number view.seen both.seen log view_begins begins (mine.own live) in
+      let of_mine : made_by worker view.number log ≡ made_by worker view.number both.seen =
+      made_by-between worker view.number view.seen both.seen log view_begins begins (mine.own live) in
+      let of_other : made_by worker other.number log ≡ made_by worker other.number both.seen =
+      made_by-between worker other.number other.seen both.seen log other_begins begins (its.own lives) in
       let one = sum_by-set_at turn views id view both at in
       let two = sum_by-set_at turn kept other_id other spent_seat at_other in
       let most = rule.one_holder in
@@ -160,19 +165,21 @@ module _ {V C E : Type 0} (case_of : V → C) (entries_of : V → List E) (worke
               before = ([], refl);
               beside = ([], refl);
               kept = refl;
+              kept_beside = refl;
               partner = λ e. absurd (omega arith);
             })
             (λ place v _ at_place. each_changed (Known log) views id both
             (record {
               case = mine.case;
               seen = begins;
-              own = λ _. of_all;
+              own = λ _. of_mine;
               holder = mine.holder;
               entered = mine.entered;
               standing = let stands = mine.standing in omega arith;
               before = view_begins;
               beside = other_begins;
-              kept = sym of_all ∙ mine.own live;
+              kept = sym of_mine ∙ mine.own live;
+              kept_beside = sym of_other ∙ its.own lives;
               partner = λ _. differ made views other_id id other view rule.counts was_there at apart lives live;
             })
             (λ place v _ at_place. rule.each place v at_place) place v at_place);
@@ -216,8 +223,9 @@ module _ {V C E : Type 0} (case_of : V → C) (entries_of : V → List E) (worke
                 entered = mine.entered;
                 standing = mine.standing;
                 before = begins_itself view.seen;
-                beside = (view.seen, refl);
+                beside = begins_itself view.seen;
                 kept = refl;
+                kept_beside = refl;
                 partner = λ _ e. omega arith;
               })
               (λ place other apart at_other. rule.each place other at_other);
@@ -225,7 +233,7 @@ module _ {V C E : Type 0} (case_of : V → C) (entries_of : V → List E) (worke
           numbers = rule.numbers;
           witness = seen_changed rule.log views id view after at (λ stands all. (stands, all)) rule.witness;
         },
-        (mine.before, mine.beside, mine.kept, mine.partner live, fits, refl),
+        (mine.before, mine.beside, mine.kept, mine.kept_beside, mine.partner live, fits, refl),
       )
 
   -- the same for a seat that rests

@@ -73,6 +73,7 @@ module _ {V C E : Type 0} (case_of : V → C) (entries_of : V → List E) (worke
           before = ([], refl);
           beside = ([], refl);
           kept = refl;
+          kept_beside = refl;
           partner = λ _ e. omega arith;
         });
         counts = first_counts key;
@@ -111,7 +112,7 @@ module _ {V C E : Type 0} (case_of : V → C) (entries_of : V → List E) (worke
           free = λ none. absurd (omega arith);
           held = λ _. one_home state.homes maybe.none (deep ∙ one_slot);
           each = each_changed (Known rule.log) views id after
-              (record { case = mine.case; seen = mine.seen; own = mine.own; holder = omega arith; entered = λ _. entries_are; standing = mine.standing; before = mine.before; beside = mine.beside; kept = mine.kept; partner = mine.partner })
+              (record { case = mine.case; seen = mine.seen; own = mine.own; holder = omega arith; entered = λ _. entries_are; standing = mine.standing; before = mine.before; beside = mine.beside; kept = mine.kept; kept_beside = mine.kept_beside; partner = mine.partner })
               (λ place other apart at_other. rule.each place other at_other);
           counts = same_counts made views id view after at refl refl refl refl rule.counts;
           numbers = rule.numbers;
@@ -202,8 +203,9 @@ module _ {V C E : Type 0} (case_of : V → C) (entries_of : V → List E) (worke
                 entered = λ e. absurd (omega arith);
                 standing = mine.standing;
                 before = begins_itself entries;
-                beside = (entries, refl);
+                beside = begins_itself entries;
                 kept = refl;
+                kept_beside = refl;
                 partner = mine.partner;
               })
               (λ place other apart at_other.
@@ -219,6 +221,7 @@ module _ {V C E : Type 0} (case_of : V → C) (entries_of : V → List E) (worke
                 before = its.before;
                 beside = its.beside;
                 kept = its.kept;
+                kept_beside = its.kept_beside;
                 partner = its.partner;
               });
           counts = same_counts made views id view after at refl refl refl refl rule.counts;

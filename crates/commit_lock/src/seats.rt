@@ -162,6 +162,8 @@ impl<V: Grows> CommitLock<V> {
         ensures seen_by_other { IsBeginning (seen other) (seen seat.new) }
         ensures own { made_by V.worker (number seat.old) (seen seat.new)
             ≡ made_by V.worker (number seat.old) (seen seat.old) }
+        ensures own_of_other { made_by V.worker (number other) (seen seat.new)
+            ≡ made_by V.worker (number other) (seen other) }
     {
         let Seat {
             token,

@@ -82,11 +82,12 @@ module _ {V C E : Type 0} (case_of : V → C) (entries_of : V → List E) (worke
     pub entered : view.turn ≡ 1 → view.entered ≡ log
     -- a live seat stands for itself at least
     pub standing : view.live ≤ view.stands_for
-    -- at its last join both seats had seen beginnings of what it has seen now, and its own entries
-    -- stayed the same
+    -- at its last join both seats had seen beginnings of what it has seen now, and the entries of
+    -- both stayed the same
     pub before : IsBeginning view.before view.seen
     pub beside : IsBeginning view.beside view.seen
     pub kept : made_by worker view.number view.seen ≡ made_by worker view.number view.before
+    pub kept_beside : made_by worker view.partner view.seen ≡ made_by worker view.partner view.beside
     pub partner : view.live ≡ 1 → view.partner ≢ view.number
 
   pub record LockRule (state : State (Option V) (SeatView C E)) : Type 0 where

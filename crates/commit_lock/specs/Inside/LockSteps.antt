@@ -19,7 +19,7 @@ module _ {C E : Type 0} where
     room = 1;
     stands_for = 0;
     before = view.seen;
-    beside = [];
+    beside = view.seen;
   }
 
   -- the same seat with its number, for which it gives the room up
@@ -30,7 +30,7 @@ module _ {C E : Type 0} where
     room = 0;
     stands_for = 1;
     before = view.seen;
-    beside = [];
+    beside = view.seen;
     partner = number + 1;
   }
 
@@ -63,7 +63,7 @@ module _ {C E : Type 0} where
 
   -- the notes of a join are cleared once they have been told
   abbrev pub settled : SeatView C E → SeatView C E
-  settled view = record view { before = view.seen; beside = []; partner = view.number + 1 }
+  settled view = record view { before = view.seen; beside = view.seen; partner = view.number + 1 }
 
   -- a seat that does not hold the turn, and has no slot
   abbrev pub Rests : {S : Type 0} → Me S (SeatView C E) → Type 0
@@ -80,7 +80,7 @@ module _ {C E : Type 0} where
     seen = entries;
     entered = [];
     before = entries;
-    beside = [];
+    beside = entries;
   }
 
 module _ {V C E : Type 0} (case_of : V → C) (entries_of : V → List E) (worker : E → ℕ) where
@@ -131,5 +131,6 @@ module _ {C E : Type 0} (worker : E → ℕ) where
   SettlesJoin step me found after =
       IsBeginning me.0.before me.0.seen × IsBeginning me.0.beside me.0.seen
       × (made_by worker me.0.number me.0.seen ≡ made_by worker me.0.number me.0.before)
+      × (made_by worker me.0.partner me.0.seen ≡ made_by worker me.0.partner me.0.beside)
       × (me.0.partner ≢ me.0.number) × (me.0.room + me.0.stands_for ≤ most)
       × (after ≡ (settled me.0, me.1))
