@@ -28,8 +28,24 @@ module _ {V C E : Type 0} (case_of : V → C) (entries_of : V → List E) (worke
   abbrev Known : List E → SeatView C E → Type 0
   Known = Knows case_of entries_of worker key
 
+  abbrev Mine : Type 0
+  Mine = Me (Option V) (SeatView C E)
+
+  -- the seat may draw its number
+  abbrev MayDraw : ℕ → ℕ → ℕ → ℕ → Mine → Type 0
+  MayDraw slots id first second me =
+      Allows Rule slots id me 0 (λ n. (n + 2) % 2 ^ 64)
+      (DrawsNumber worker (step {S = Option V} slots 0 first second maybe.none) me)
+
+  -- the seat may look at the turn word after a join
+  abbrev MaySettle : ℕ → ℕ → ℕ → ℕ → Mine → Type 0
+  MaySettle slots id first second me =
+      Allows Rule slots id me 0 (λ n. n)
+      (SettlesJoin worker (step {S = Option V} slots 0 first second maybe.none) me)
+
   -- a split
-  pub splits : (id : ℕ) (view : SeatView C E) → 1 ≤ view.room → Splits Rule id view (one_less view) (unnumbered view)
+  pub splits : (id : ℕ) (view : SeatView C E) → 1 ≤ view.room
+      → Splits Rule id view (one_less view) (unnumbered view)
   splits id view roomy state rule at =
       let views = state.views in
       let made = rule.made in
@@ -39,7 +55,9 @@ module _ {V C E : Type 0} (case_of : V → C) (entries_of : V → List E) (worke
       let kept : List (SeatView C E) = set views id left in
       let changed = sum_by-set_at turn views id view left at in
       let most = rule.one_holder in
-      let same : sum_by turn (kept ++ right ∷ []) ≡ sum_by turn views = omega (arith, sum_by_push turn kept right) in record {
+      let same : sum_by turn (kept ++ right ∷ []) ≡ sum_by turn views =
+      omega (arith, sum_by_push turn kept right) in
+      let seen = seen_changed rule.log views id view left at (λ stands all. (stands, all)) rule.witness in record {
         log = rule.log;
         made = made;
         word = rule.word ∙ ap (λ (t : ℕ). (2 * made + t) ∷ []) (sym same);
@@ -61,36 +79,54 @@ module _ {V C E : Type 0} (case_of : V → C) (entries_of : V → List E) (worke
               partner = λ e. absurd (omega arith);
             })
             (each_changed (Known rule.log) views id left
-            (record { case = mine.case; seen = mine.seen; own = mine.own; holder = mine.holder; entered = mine.entered; standing = mine.standing; before = mine.before; beside = mine.beside; kept = mine.kept; kept_beside = mine.kept_beside; partner = mine.partner })
+            (record {
+              case = mine.case;
+              seen = mine.seen;
+              own = mine.own;
+              holder = mine.holder;
+              entered = mine.entered;
+              standing = mine.standing;
+              before = mine.before;
+              beside = mine.beside;
+              kept = mine.kept;
+              kept_beside = mine.kept_beside;
+              partner = mine.partner;
+            })
             (λ place other apart at_other. rule.each place other at_other));
         counts = split_counts made views id view at roomy rule.counts;
         numbers = rule.numbers;
-        witness = seen_added rule.log kept right (seen_changed rule.log views id view left at (λ stands all. (stands, all)) rule.witness);
+        witness = seen_added rule.log kept right seen;
       }
 
   -- the step that draws the number of a seat that was split off
-  draws_number : (slots id first second : ℕ) (view : SeatView C E) → view.live ≡ 0 → view.turn ≡ 0 → view.stands_for ≡ 0 → view.room ≡ 1
-      → Allows Rule slots id (view, []) 0 (λ n. (n + 2) % 2 ^ 64) (DrawsNumber worker (step {S = Option V} slots 0 first second maybe.none) (view, []))
-  draws_number slots id first second view dead idle none_standing one_room state rule deep at bounded =
+  draws_number : (slots id first second : ℕ) (view : SeatView C E)
+      → view.live ≡ 0 → view.turn ≡ 0 → view.stands_for ≡ 0 → view.room ≡ 1
+      → MayDraw slots id first second (view, [])
+  draws_number slots id first second view dead idle no_seat one_room state rule deep at bounded =
       let views = state.views in
       let made = rule.made in
       let mine = rule.each id view at in
       let after : SeatView C E = numbered made view in
       let changed = sum_by-set_at turn views id view after at in
-      let small : made + 1 < 2 ^ 32 = let part = sum_by-at_most room views id view at in let all = rule.counts.rooms in omega arith in
+      let part = sum_by-at_most room views id view at in
+      let all = rule.counts.rooms in
+      let small : made + 1 < 2 ^ 32 = omega arith in
       let most = rule.one_holder in
       let same : sum_by turn (set views id after) ≡ sum_by turn views = omega arith in
-      let found : slice_index state.words 0 ≡ 2 * made + sum_by turn views = word_found state.words (2 * made + sum_by turn views) rule.word in
+      let word_is : ℕ = 2 * made + sum_by turn views in
+      let found : slice_index state.words 0 ≡ word_is = word_found state.words word_is rule.word in
+      let next : (word_is + 2) % 2 ^ 64 ≡ 2 * (made + 1) + sum_by turn (set views id after) = omega arith in
       let half : slice_index state.words 0 / 2 ≡ made = omega arith in
       let none : made_by worker made rule.log ≡ [] = rule.numbers made (omega arith) in
-      let none_seen : made_by worker made view.seen ≡ [] = made_by-front worker made view.seen rule.log mine.seen none in (
+      let none_seen : made_by worker made view.seen ≡ [] =
+      made_by-front worker made view.seen rule.log mine.seen none in (
         after,
         keeps,
         tt,
         record {
           log = rule.log;
           made = made + 1;
-          word = word_left state.words (λ n. (n + 2) % 2 ^ 64) (2 * made + sum_by turn views) (2 * (made + 1) + sum_by turn (set views id after)) rule.word (omega arith);
+          word = word_left state.words (λ n. (n + 2) % 2 ^ 64) word_is _ rule.word next;
           one_holder = omega arith;
           free = λ none. rule.free (omega arith);
           held = λ one. rule.held (omega arith);
@@ -109,9 +145,10 @@ module _ {V C E : Type 0} (case_of : V → C) (entries_of : V → List E) (worke
                 partner = λ _ e. omega arith;
               })
               (λ place other apart at_other. rule.each place other at_other);
-          counts = numbered_counts made views id view at dead none_standing one_room rule.counts;
+          counts = numbered_counts made views id view at dead no_seat one_room rule.counts;
           numbers = λ n above. rule.numbers n (omega arith);
-          witness = seen_changed rule.log views id view after at (λ stands all. absurd (omega arith)) rule.witness;
+          witness =
+              seen_changed rule.log views id view after at (λ stands all. absurd (omega arith)) rule.witness;
         },
         (
           omega arith,
@@ -122,32 +159,36 @@ module _ {V C E : Type 0} (case_of : V → C) (entries_of : V → List E) (worke
       )
 
   -- the same for a seat that was just split off
-  pub draws_by : (slots id first second : ℕ) (me : Me (Option V) (SeatView C E)) (view : SeatView C E) → me ≡ (unnumbered view, [])
-      → Allows Rule slots id me 0 (λ n. (n + 2) % 2 ^ 64) (DrawsNumber worker (step {S = Option V} slots 0 first second maybe.none) me)
+  pub draws_by : (slots id first second : ℕ) (me : Mine) (view : SeatView C E)
+      → me ≡ (unnumbered view, []) → MayDraw slots id first second me
   draws_by slots id first second me view is =
-      subst (λ (m : Me (Option V) (SeatView C E)). Allows Rule slots id m 0 (λ n. (n + 2) % 2 ^ 64) (DrawsNumber worker (step {S = Option V} slots 0 first second maybe.none) m))
-      (sym is) (draws_number slots id first second (unnumbered view) refl refl refl refl)
+      subst (MayDraw slots id first second) (sym is)
+      (draws_number slots id first second (unnumbered view) refl refl refl refl)
 
   -- a join
-  pub joins : (id other_id : ℕ) (view other : SeatView C E) → view.live ≡ 1 → other.live ≡ 1 → other.turn ≡ 0 → Joins Rule id view other_id other (joined longer view other) spent_seat
+  pub joins : (id other_id : ℕ) (view other : SeatView C E)
+      → view.live ≡ 1 → other.live ≡ 1 → other.turn ≡ 0
+      → Joins Rule id view other_id other (joined longer view other) spent_seat
   joins id other_id view other live lives idle state rule at apart at_other =
       let views = state.views in
       let made = rule.made in
       let log = rule.log in
       let both : SeatView C E = joined longer view other in
       let kept : List (SeatView C E) = set views id both in
-      let was_there : get_elem? views other_id ≡ maybe.some other = sym (set_else views id other_id both apart) ∙ at_other in
+      let was_there : get_elem? views other_id ≡ maybe.some other =
+      sym (set_else views id other_id both apart) ∙ at_other in
       let mine = rule.each id view at in
       let its = rule.each other_id other was_there in
-      let (begins, view_begins, other_begins) = merged view.seen other.seen log mine.seen its.seen in
+      let (begins, mine_begins, other_begins) = merged view.seen other.seen log mine.seen its.seen in
       let of_mine : made_by worker view.number log ≡ made_by worker view.number both.seen =
-      made_by-between worker view.number view.seen both.seen log view_begins begins (mine.own live) in
+      made_by-between worker view.number view.seen both.seen log mine_begins begins (mine.own live) in
       let of_other : made_by worker other.number log ≡ made_by worker other.number both.seen =
       made_by-between worker other.number other.seen both.seen log other_begins begins (its.own lives) in
       let one = sum_by-set_at turn views id view both at in
       let two = sum_by-set_at turn kept other_id other spent_seat at_other in
       let most = rule.one_holder in
-      let same : sum_by turn (set kept other_id spent_seat) ≡ sum_by turn views = omega arith in record {
+      let same : sum_by turn (set kept other_id spent_seat) ≡ sum_by turn views = omega arith in
+      let stands = mine.standing in record {
         log = log;
         made = made;
         word = rule.word ∙ ap (λ (t : ℕ). (2 * made + t) ∷ []) (sym same);
@@ -175,21 +216,25 @@ module _ {V C E : Type 0} (case_of : V → C) (entries_of : V → List E) (worke
               own = λ _. of_mine;
               holder = mine.holder;
               entered = mine.entered;
-              standing = let stands = mine.standing in omega arith;
-              before = view_begins;
+              standing = omega arith;
+              before = mine_begins;
               beside = other_begins;
               kept = sym of_mine ∙ mine.own live;
               kept_beside = sym of_other ∙ its.own lives;
-              partner = λ _. differ made views other_id id other view rule.counts was_there at apart lives live;
+              partner = λ _.
+                  differ made views other_id id other view rule.counts was_there at apart lives live;
             })
             (λ place v _ at_place. rule.each place v at_place) place v at_place);
         counts = joined_counts made views id other_id view other at at_other rule.counts;
         numbers = rule.numbers;
-        witness = seen_joined log views id other_id view other both spent_seat at was_there apart (let stands = mine.standing in omega arith) begins view_begins other_begins rule.witness;
+        witness =
+            seen_joined log views id other_id view other both spent_seat at was_there apart (omega arith)
+            begins mine_begins other_begins rule.witness;
       }
 
   -- the look at the turn word after a join
-  settles : (slots id first second : ℕ) (view : SeatView C E) → view.live ≡ 1 → Allows Rule slots id (view, []) 0 (λ n. n) (SettlesJoin worker (step {S = Option V} slots 0 first second maybe.none) (view, []))
+  settles : (slots id first second : ℕ) (view : SeatView C E) → view.live ≡ 1
+      → MaySettle slots id first second (view, [])
   settles slots id first second view live state rule deep at bounded =
       let views = state.views in
       let made = rule.made in
@@ -210,7 +255,7 @@ module _ {V C E : Type 0} (case_of : V → C) (entries_of : V → List E) (worke
         record {
           log = rule.log;
           made = made;
-          word = word_left state.words (λ n. n) (2 * made + sum_by turn views) (2 * made + sum_by turn (set views id after)) rule.word (ap (λ (t : ℕ). 2 * made + t) (sym same));
+          word = word_left state.words (λ n. n) _ _ rule.word (ap (λ (t : ℕ). 2 * made + t) (sym same));
           one_holder = omega arith;
           free = λ none. rule.free (omega arith);
           held = λ one. rule.held (omega arith);
@@ -231,14 +276,14 @@ module _ {V C E : Type 0} (case_of : V → C) (entries_of : V → List E) (worke
               (λ place other apart at_other. rule.each place other at_other);
           counts = same_counts made views id view after at refl refl refl refl rule.counts;
           numbers = rule.numbers;
-          witness = seen_changed rule.log views id view after at (λ stands all. (stands, all)) rule.witness;
+          witness =
+              seen_changed rule.log views id view after at (λ stands all. (stands, all)) rule.witness;
         },
         (mine.before, mine.beside, mine.kept, mine.kept_beside, mine.partner live, fits, refl),
       )
 
   -- the same for a seat that rests
-  pub settles_by : (slots id first second : ℕ) (me : Me (Option V) (SeatView C E)) → Rests me
-      → Allows Rule slots id me 0 (λ n. n) (SettlesJoin worker (step {S = Option V} slots 0 first second maybe.none) me)
+  pub settles_by : (slots id first second : ℕ) (me : Mine) → Rests me → MaySettle slots id first second me
   settles_by slots id first second (view, slot) rests =
-      subst (λ (l : List (ℕ × Option V)). Allows Rule slots id (view, l) 0 (λ n. n) (SettlesJoin worker (step {S = Option V} slots 0 first second maybe.none) (view, l)))
-      (sym rests.2) (settles slots id first second view rests.0)
+      subst (λ (held : List (ℕ × Option V)). MaySettle slots id first second (view, held)) (sym rests.2)
+      (settles slots id first second view rests.0)
