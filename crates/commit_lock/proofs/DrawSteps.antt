@@ -182,7 +182,8 @@ module _ (S : Type 0) (n : ℕ) where
       )
 
   -- a look at the word changes nothing
-  reads_word : (slots id first second : ℕ) (view : PassView) → MayRead slots id first second (view, [])
+  reads_word : (slots id first second : ℕ) (view : PassView)
+      → MayRead slots id first second (view, [])
   reads_word slots id first second view state rule deep at bounded =
       let same = word_kept state.words (λ x. x) (sum_by draws state.views) rule.word refl in
       let same_views = set_again state.views id view at in (
@@ -280,7 +281,8 @@ module _ (S : Type 0) (n : ℕ) where
       (draws_next slots id first second view small live (overs_none n view.drawn all))
 
   -- a look of a pass that has no slot
-  pub reads_by : (slots id first second : ℕ) (me : Me S PassView) → me.1 ≡ [] → MayRead slots id first second me
+  pub reads_by : (slots id first second : ℕ) (me : Me S PassView) → me.1 ≡ []
+      → MayRead slots id first second me
   reads_by slots id first second (view, slot) none =
       subst (λ (held : List (ℕ × S)). MayRead slots id first second (view, held)) (sym none)
       (reads_word slots id first second view)

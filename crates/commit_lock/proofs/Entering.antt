@@ -9,9 +9,12 @@ module _ {V C E : Type 0} (case_of : V → C) (entries_of : V → List E) (worke
   Mine = Me (Option V) (SeatView C E)
 
   -- the word that was found is even, so the turn was taken
-  taken : (step : Step (Option V)) (me after : Mine) (found : ℕ) → found % 2 ≡ 0 → TakesTurn case_of entries_of worker step me found after → IsTaken case_of entries_of worker me after
+  taken : (step : Step (Option V)) (me after : Mine) (found : ℕ) → found % 2 ≡ 0
+      → TakesTurn case_of entries_of worker step me found after
+      → IsTaken case_of entries_of worker me after
   taken step me after found even told =
-      subst (λ (b : Bool). MatchBool b (IsTaken case_of entries_of worker me after) (after ≡ me)) (eq-eqb (found % 2) 0 even) told
+      subst (λ (b : Bool). MatchBool b (IsTaken case_of entries_of worker me after) (after ≡ me))
+      (eq-eqb (found % 2) 0 even) told
 
   -- the value in the slot that a seat holds, or another
   slot_value : V → List (ℕ × Option V) → V
@@ -26,26 +29,39 @@ module _ {V C E : Type 0} (case_of : V → C) (entries_of : V → List E) (worke
     pub slot : last.1 ≡ (0, None) ∷ []
 
   -- the turn was taken, and then the value out of the slot
-  entered_from : (start after last : Mine) (out : Option V) (value : V) → IsTaken case_of entries_of worker start after
-      → after.1 ≡ (0, out) ∷ rest after.1 → out ≡ Some value → last ≡ (after.0, (0, None) ∷ rest after.1) → HasEntered start last value
+  entered_from : (start after last : Mine) (out : Option V) (value : V)
+      → IsTaken case_of entries_of worker start after
+      → after.1 ≡ (0, out) ∷ rest after.1 → out ≡ Some value
+      → last ≡ (after.0, (0, None) ∷ rest after.1) → HasEntered start last value
   unfolding slot_value
   entered_from start after last out value took slot is emptied =
-      let same : value ≡ took.0 = ap (slot_value value) (ap (λ (o : Option V). (0, o) ∷ rest after.1) (sym is) ∙ (sym slot ∙ ap (λ (m : Mine). m.1) took.2)) in record {
+      let slots : (0, Some value) ∷ rest after.1 ≡ (0, Some took.0) ∷ [] =
+      ap (λ (o : Option V). (0, o) ∷ rest after.1) (sym is) ∙ (sym slot ∙ ap (λ (m : Mine). m.1) took.2) in
+      let same : value ≡ took.0 = ap (slot_value value) slots in record {
         found = subst (IsFoundBy case_of entries_of worker start.0) (sym same) took.1;
-        view = ap (λ (m : Mine). m.0) emptied ∙ (ap (λ (m : Mine). m.0) took.2 ∙ ap (λ (v : V). with_turn (entries_of v) start.0) (sym same));
+        view =
+            ap (λ (m : Mine). m.0) emptied
+            ∙ (ap (λ (m : Mine). m.0) took.2 ∙ ap (λ (v : V). with_turn (entries_of v) start.0) (sym same));
         slot = ap (λ (m : Mine). m.1) emptied ∙ ap (λ (m : Mine). (0, None) ∷ rest m.1) took.2;
       }
 
   -- the same for a seat that waited, and did not change meanwhile
-  pub entered_by : (step : Step (Option V)) (start me after last : Mine) (found : ℕ) (out : Option V) (value : V) → me ≡ start
+  pub entered_by : (step : Step (Option V)) (start me after last : Mine) (found : ℕ) (out : Option V) (value : V)
+      → me ≡ start
       → found % 2 ≡ 0 → TakesTurn case_of entries_of worker step me found after
-      → after.1 ≡ (0, out) ∷ rest after.1 → out ≡ Some value → last ≡ (after.0, (0, None) ∷ rest after.1) → HasEntered start last value
+      → after.1 ≡ (0, out) ∷ rest after.1 → out ≡ Some value
+      → last ≡ (after.0, (0, None) ∷ rest after.1) → HasEntered start last value
   entered_by step start me after last found out value same even told slot is emptied =
-      entered_from start after last out value (subst (λ (m : Mine). IsTaken case_of entries_of worker m after) same (taken step me after found even told)) slot is emptied
+      let took = taken step me after found even told in
+      entered_from start after last out value
+      (subst (λ (m : Mine). IsTaken case_of entries_of worker m after) same took) slot is emptied
 
   -- the slot that the seat holds once it took the turn
-  pub has_slot : (step : Step (Option V)) (me after : Mine) (found : ℕ) → found % 2 ≡ 0 → TakesTurn case_of entries_of worker step me found after
+  pub has_slot : (step : Step (Option V)) (me after : Mine) (found : ℕ) → found % 2 ≡ 0
+      → TakesTurn case_of entries_of worker step me found after
       → (old : Option V) × (after.1 ≡ (0, old) ∷ rest after.1)
   has_slot step me after found even told =
       let took = taken step me after found even told in
-      (Some took.0, ap (λ (m : Mine). m.1) took.2 ∙ ap (λ (l : List (ℕ × Option V)). (0, Some took.0) ∷ l) (sym (ap (λ (m : Mine). rest m.1) took.2)))
+      let none : [] ≡ rest after.1 = sym (ap (λ (m : Mine). rest m.1) took.2) in
+      let slots = ap (λ (l : List (ℕ × Option V)). (0, Some took.0) ∷ l) none in
+      (Some took.0, ap (λ (m : Mine). m.1) took.2 ∙ slots)

@@ -9,26 +9,33 @@ use Rattle.commit_lock.proofs.Views.{each_changed}
 
 module _ {C E : Type 0} where
   -- a live seat counts for its number
-  pub lives_as-own : (n : ℕ) (view : SeatView C E) → view.live ≡ 1 → view.number ≡ n → lives_as n view ≡ 1
+  pub lives_as-own : (n : ℕ) (view : SeatView C E) → view.live ≡ 1 → view.number ≡ n
+      → lives_as n view ≡ 1
   lives_as-own n view live same =
-      ap (λ (x : ℕ). x * cond {A = ℕ} (view.number == n) 1 0) live ∙ ap (λ (b : Bool). 1 * cond {A = ℕ} b 1 0) (eq-eqb view.number n same)
+      ap (λ (x : ℕ). x * cond {A = ℕ} (view.number == n) 1 0) live
+      ∙ ap (λ (b : Bool). 1 * cond {A = ℕ} b 1 0) (eq-eqb view.number n same)
 
   -- and for no other
-  pub lives_as-other : (n : ℕ) (view : SeatView C E) → view.live ≡ 1 → view.number ≢ n → lives_as n view ≡ 0
+  pub lives_as-other : (n : ℕ) (view : SeatView C E) → view.live ≡ 1 → view.number ≢ n
+      → lives_as n view ≡ 0
   lives_as-other n view live apart =
-      ap (λ (x : ℕ). x * cond {A = ℕ} (view.number == n) 1 0) live ∙ ap (λ (b : Bool). 1 * cond {A = ℕ} b 1 0) (ne_eqb view.number n apart)
+      ap (λ (x : ℕ). x * cond {A = ℕ} (view.number == n) 1 0) live
+      ∙ ap (λ (b : Bool). 1 * cond {A = ℕ} b 1 0) (ne_eqb view.number n apart)
 
   -- a seat that does not live counts for none
   pub lives_as-none : (n : ℕ) (view : SeatView C E) → view.live ≡ 0 → lives_as n view ≡ 0
   lives_as-none n view dead = ap (λ (x : ℕ). x * cond {A = ℕ} (view.number == n) 1 0) dead ∙ omega arith
 
   -- what it counts for stays with its number
-  pub lives_as-same : (n : ℕ) (view after : SeatView C E) → after.number ≡ view.number → after.live ≡ view.live → lives_as n after ≡ lives_as n view
+  pub lives_as-same : (n : ℕ) (view after : SeatView C E) → after.number ≡ view.number
+      → after.live ≡ view.live → lives_as n after ≡ lives_as n view
   lives_as-same n view after number live = λ i. live i * cond {A = ℕ} (number i == n) 1 0
 
   -- two live seats have different numbers
-  pub differ : (made : ℕ) (views : List (SeatView C E)) (i j : ℕ) (one other : SeatView C E) → Counts made views
-      → get_elem? views i ≡ some one → get_elem? views j ≡ some other → i ≢ j → one.live ≡ 1 → other.live ≡ 1 → one.number ≢ other.number
+  pub differ : (made : ℕ) (views : List (SeatView C E)) (i j : ℕ) (one other : SeatView C E)
+      → Counts made views
+      → get_elem? views i ≡ some one → get_elem? views j ≡ some other → i ≢ j → one.live ≡ 1
+      → other.live ≡ 1 → one.number ≢ other.number
   differ made views i j one other counts at_i at_j apart live lives same =
       let n : ℕ = other.number in
       let both = sum_by-two_at_most (lives_as n) views i j one other at_i at_j apart in
@@ -38,7 +45,8 @@ module _ {C E : Type 0} where
       omega arith
 
   -- a live seat's number was drawn
-  pub was_drawn : (made : ℕ) (views : List (SeatView C E)) (i : ℕ) (view : SeatView C E) → Counts made views → get_elem? views i ≡ some view
+  pub was_drawn : (made : ℕ) (views : List (SeatView C E)) (i : ℕ) (view : SeatView C E)
+      → Counts made views → get_elem? views i ≡ some view
       → view.live ≡ 1 → (n : ℕ) → made ≤ n → view.number ≢ n
   was_drawn made views i view counts at live n above same =
       let part = sum_by-at_most (lives_as n) views i view at in
@@ -47,8 +55,10 @@ module _ {C E : Type 0} where
       omega arith
 
   -- a step that changes neither numbers nor rooms keeps the counts
-  pub same_counts : (made : ℕ) (views : List (SeatView C E)) (id : ℕ) (view after : SeatView C E) → get_elem? views id ≡ some view
-      → after.number ≡ view.number → after.live ≡ view.live → after.stands_for ≡ view.stands_for → after.room ≡ view.room
+  pub same_counts : (made : ℕ) (views : List (SeatView C E)) (id : ℕ) (view after : SeatView C E)
+      → get_elem? views id ≡ some view
+      → after.number ≡ view.number → after.live ≡ view.live → after.stands_for ≡ view.stands_for
+      → after.room ≡ view.room
       → Counts made views → Counts made (set views id after)
   same_counts made views id view after at number live standing roomy counts = record {
     apart = λ n.
@@ -61,9 +71,18 @@ module _ {C E : Type 0} where
         let same = lives_as-same n view after number live in
         let before = counts.drawn n above in
         omega arith;
-    below = each_changed (λ (v : SeatView C E). v.number < made) views id after (let before = counts.below id view at in omega arith) (λ j v apart at_j. counts.below j v at_j);
-    standing = let changed = sum_by-set_at stands_for views id view after at in let before = counts.standing in omega arith;
-    rooms = let changed = sum_by-set_at room views id view after at in let before = counts.rooms in omega arith;
+    below =
+        let before = counts.below id view at in
+        each_changed (λ (v : SeatView C E). v.number < made) views id after (omega arith)
+        (λ j v apart. counts.below j v);
+    standing =
+        let changed = sum_by-set_at stands_for views id view after at in
+        let before = counts.standing in
+        omega arith;
+    rooms =
+        let changed = sum_by-set_at room views id view after at in
+        let before = counts.rooms in
+        omega arith;
   }
 
   -- so few seats are made that the turn word has room for twice their number

@@ -283,7 +283,8 @@ module _ {V C E : Type 0} (case_of : V → C) (entries_of : V → List E) (worke
       )
 
   -- the same for a seat that rests
-  pub settles_by : (slots id first second : ℕ) (me : Mine) → Rests me → MaySettle slots id first second me
+  pub settles_by : (slots id first second : ℕ) (me : Mine) → Rests me
+      → MaySettle slots id first second me
   settles_by slots id first second (view, slot) rests =
       subst (λ (held : List (ℕ × Option V)). MaySettle slots id first second (view, held)) (sym rests.2)
       (settles slots id first second view rests.0)

@@ -5,7 +5,8 @@ use Rattle.commit_lock.proofs.draw_word.DrawWord.draw.Goals as goal
 pub fetch_add-found-requires : goal.fetch_add-found-requires
 fetch_add-found-requires c =
     let pass = c.args.pass.now in
-    let not_over = subst (λ (n : ℕ). All (λ x. x < n) pass.token.me.0.drawn) (sym c.args.self.now.key_is) c.requires.not_over in
+    let drawn = pass.token.me.0.drawn in
+    let not_over = subst (λ (n : ℕ). All (λ x. x < n) drawn) (sym c.args.self.now.key_is) c.requires.not_over in
     (c.requires.word, search rules, draws_by _ _ _ _ 1 0 pass.token.me (search rules) pass.live pass.no_slot not_over)
 
 pub returns-then-found-ranks-clause-none_twice : goal.returns-then-found-ranks-clause-none_twice

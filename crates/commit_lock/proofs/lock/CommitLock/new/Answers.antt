@@ -10,6 +10,10 @@ new-requires g c =
     let entries_of = g.V.Grows.entries in
     let worker = g.V.Grows.worker in
     let key = case_of c.of-key.result.value in
-    let slots : c.push.new.self.items ≡ Some c.args.value ∷ [] = c.in_default.ensures.items ∙ ap (λ (l : List (Option g.row.V.Denot)). l ++ Some c.args.value ∷ []) c.new-slots.ensures.items in
-    subst (λ (l : List (Option g.row.V.Denot)). LockRule case_of entries_of worker key (opening (2 ∷ []) l (first_seat key))) (sym slots)
-    (opens case_of entries_of worker key c.args.value c.requires (ap case_of (sym c.of-key.ensures)))
+    let value = c.args.value in
+    let slots : c.push.new.self.items ≡ Some value ∷ [] =
+    c.in_default.ensures.items
+    ∙ ap (λ (l : List (Option g.row.V.Denot)). l ++ Some value ∷ []) c.new-slots.ensures.items in
+    subst (λ (l : List (Option g.row.V.Denot)). LockRule case_of entries_of worker key (opening (2 ∷ []) l (first_seat key)))
+    (sym slots)
+    (opens case_of entries_of worker key value c.requires (ap case_of (sym c.of-key.ensures)))
