@@ -2,6 +2,7 @@
 use Rattle.std.proofs.Common.{◌≡◌, ◌%◌, ℕ, Bool, List, [], ◌∷◌, Option, Some, None, MatchBool, sym, ap, ◌∙◌, subst, eq-eqb}
 use Rattle.atomic_table.specs.Table.{Me, Step, rest}
 use Rattle.commit_lock.specs.declared.lock.SeatView.{SeatView}
+use Rattle.commit_lock.specs.Entries.{IsBeginning, made_by}
 use Rattle.commit_lock.specs.Inside.LockSteps.{with_turn, IsFoundBy, IsTaken, TakesTurn}
 
 module _ {V C E : Type 0} (case_of : V → C) (entries_of : V → List E) (worker : E → ℕ) where
@@ -45,16 +46,47 @@ module _ {V C E : Type 0} (case_of : V → C) (entries_of : V → List E) (worke
         slot = ap (λ (m : Mine). m.1) emptied ∙ ap (λ (m : Mine). (0, None) ∷ rest m.1) took.2;
       }
 
+  -- what a seat of the case `key`, that did not hold the turn before, knows of the value that it found
+  pub record Entered (key : C) (start last : Mine) (value : V) : Type 0 where
+    pub case : last.0.case ≡ Some key
+    pub turn : (last.0.live ≡ 1) × (last.0.turn ≡ 1) × (last.1 ≡ (0, None) ∷ [])
+    pub entered : last.0.entered ≡ entries_of value
+    pub place :
+        (last.0.number ≡ start.0.number) × (last.0.room ≡ start.0.room)
+        × (last.0.stands_for ≡ start.0.stands_for)
+    pub seen : last.0.seen ≡ start.0.seen
+    pub found_case : case_of value ≡ key
+    pub begins : IsBeginning start.0.seen (entries_of value)
+    pub own : made_by worker start.0.number (entries_of value) ≡ made_by worker start.0.number start.0.seen
+
+  -- the seat's case and its place stay
+  entered_with : (key : C) (start last : Mine) (value : V) → start.0.case ≡ Some key → start.0.live ≡ 1
+      → HasEntered start last value → Entered key start last value
+  entered_with key start last value case live has = record {
+    case = ap (λ (v : SeatView C E). v.case) has.view ∙ case;
+    turn = (ap (λ (v : SeatView C E). v.live) has.view ∙ live, ap (λ (v : SeatView C E). v.turn) has.view, has.slot);
+    entered = ap (λ (v : SeatView C E). v.entered) has.view;
+    place = (
+      ap (λ (v : SeatView C E). v.number) has.view,
+      ap (λ (v : SeatView C E). v.room) has.view,
+      ap (λ (v : SeatView C E). v.stands_for) has.view,
+    );
+    seen = ap (λ (v : SeatView C E). v.seen) has.view;
+    found_case = has.found.0 key case;
+    begins = has.found.1;
+    own = has.found.2;
+  }
+
   -- the same for a seat that waited, and did not change meanwhile
-  pub entered_by : (step : Step (Option V)) (start me after last : Mine) (found : ℕ) (out : Option V) (value : V)
-      → me ≡ start
+  pub entered_by : (step : Step (Option V)) (key : C) (start me after last : Mine) (found : ℕ) (out : Option V)
+      (value : V) → start.0.case ≡ Some key → start.0.live ≡ 1 → me ≡ start
       → found % 2 ≡ 0 → TakesTurn case_of entries_of worker step me found after
       → after.1 ≡ (0, out) ∷ rest after.1 → out ≡ Some value
-      → last ≡ (after.0, (0, None) ∷ rest after.1) → HasEntered start last value
-  entered_by step start me after last found out value same even told slot is emptied =
+      → last ≡ (after.0, (0, None) ∷ rest after.1) → Entered key start last value
+  entered_by step key start me after last found out value case live same even told slot is emptied =
       let took = taken step me after found even told in
-      entered_from start after last out value
-      (subst (λ (m : Mine). IsTaken case_of entries_of worker m after) same took) slot is emptied
+      let took_first = subst (λ (m : Mine). IsTaken case_of entries_of worker m after) same took in
+      entered_with key start last value case live (entered_from start after last out value took_first slot is emptied)
 
   -- the slot that the seat holds once it took the turn
   pub has_slot : (step : Step (Option V)) (me after : Mine) (found : ℕ) → found % 2 ≡ 0

@@ -5,10 +5,10 @@ use mathlib.Core.Logic.{dite}
 use mathlib.Core.Option as maybe
 use native.Mathlib.Decide.{ℕ_discrete}
 use lib.ListN.{get_elem?}
-use Rattle.atomic_table.specs.Table.{State, Me, Act, Valid, carried_after, step, keeps, takes, gives, stepped, opening, Allows}
+use Rattle.atomic_table.specs.Table.{State, Me, Act, Valid, carried_after, step, keeps, takes, gives, stepped, opening, Allows, rest}
 use Rattle.atomic_table.proofs.Lists.{set_again}
 use Rattle.commit_lock.specs.declared.lock.SeatView.{SeatView}
-use Rattle.commit_lock.specs.Entries.{IsBeginning, made_by}
+use Rattle.commit_lock.specs.Entries.{IsBeginning, GrowsBy, made_by}
 use Rattle.commit_lock.specs.Inside.LockRule.{turn, first_seat, Knows, Counts, LockRule}
 use Rattle.commit_lock.specs.Inside.LockSteps.{with_turn, without_turn, Rests, TakesTurn, GivesTurn, MayLeave}
 use Rattle.commit_lock.proofs.Sums.{sum_by-set_at, sum_by-at_most, sum_by-two_at_most}
@@ -70,7 +70,7 @@ module _ {V C E : Type 0} (case_of : V → C) (entries_of : V → List E) (worke
   case_or other None = other
 
   -- a new lock has its rule
-  pub opens : (value : V) → entries_of value ≡ [] → case_of value ≡ key
+  opens : (value : V) → entries_of value ≡ [] → case_of value ≡ key
       → Rule (opening (2 ∷ []) (Some value ∷ []) (first_seat key))
   unfolding case_or
   opens value none is =
@@ -98,6 +98,13 @@ module _ {V C E : Type 0} (case_of : V → C) (entries_of : V → List E) (worke
         numbers = λ n above. refl;
         witness = (0, first, refl, omega arith, refl);
       }
+
+  -- the same for slots to which the value was pushed
+  pub opens_with : (before slots : List (Option V)) (value : V) → before ≡ [] → slots ≡ before ++ Some value ∷ []
+      → entries_of value ≡ [] → case_of value ≡ key → Rule (opening (2 ∷ []) slots (first_seat key))
+  opens_with before slots value empty pushed none case =
+      let is : slots ≡ Some value ∷ [] = pushed ∙ ap (λ (l : List (Option V)). l ++ Some value ∷ []) empty in
+      subst (λ (l : List (Option V)). Rule (opening (2 ∷ []) l (first_seat key))) (sym is) (opens value none case)
 
   -- what a step that sets the turn bit may make of a seat
   abbrev Takes : ℕ → ℕ → ℕ → ℕ → SeatView C E → Table → Type 0
@@ -299,10 +306,14 @@ module _ {V C E : Type 0} (case_of : V → C) (entries_of : V → List E) (worke
             ap (λ (v : V). (without_turn (entries_of v) view, [])) same),
       )
 
-  -- the same for a seat as it holds its slots
-  pub gives_by : (slots id first second : ℕ) (me : Mine) (value : V)
-      → me.1 ≡ (0, Some value) ∷ [] → slots ≡ 1 → me.0.live ≡ 1 → me.0.turn ≡ 1
-      → MayLeave case_of entries_of worker me.0 value → MayGive slots id first second me
-  gives_by slots id first second (view, slot) value has one_slot live held may =
-      subst (λ (held : List (ℕ × Option V)). MayGive slots id first second (view, held)) (sym has)
-      (gives_turn slots id first second view value one_slot live held may)
+  -- the same for a seat that has put the value into its slot
+  pub gives_by : (slots id first second : ℕ) (me after : Mine) (value : V)
+      → after ≡ (me.0, (0, Some value) ∷ rest me.1) → slots ≡ 1
+      → (me.0.live ≡ 1) × (me.0.turn ≡ 1) × (me.1 ≡ (0, None) ∷ [])
+      → me.0.case ≡ Some key → case_of value ≡ key
+      → GrowsBy worker me.0.number me.0.entered (entries_of value) → MayGive slots id first second after
+  gives_by slots id first second me after value stored one_slot has_turn case value_case grown =
+      let is : after ≡ (me.0, (0, Some value) ∷ []) =
+      stored ∙ ap (λ (held : List (ℕ × Option V)). (me.0, (0, Some value) ∷ rest held)) has_turn.2 in
+      subst (MayGive slots id first second) (sym is)
+      (gives_turn slots id first second me.0 value one_slot has_turn.0 has_turn.1 (case ∙ ap Some (sym value_case), grown))
