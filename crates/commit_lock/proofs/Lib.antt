@@ -6,6 +6,7 @@ pub mod EntryLemmas
 pub mod SeatNumbers
 pub mod SeatCounts
 pub mod Witness
+pub mod Opening
 pub mod TurnSteps
 pub mod SeatSteps
 pub mod Entering

@@ -1,21 +1,21 @@
--- A new lock has its rule, and the steps that take the turn and give it back keep it.
-use Rattle.std.proofs.Common.{◌≡◌, ◌≢◌, ◌%◌, ◌-◌, ◌+◌, ◌*◌, ◌^◌, ◌<◌, ℕ, List, [], ◌∷◌, ◌++◌, length, set, slice_index, bit_or, bit_and, Option, Some, None, refl, sym, ap, ◌∙◌, subst, arith}
+-- The steps that take the turn and give it back keep the rule of the lock.
+use Rattle.std.proofs.Common.{◌≡◌, ◌≢◌, ◌%◌, ◌-◌, ◌+◌, ◌*◌, ◌^◌, ℕ, List, [], ◌∷◌, ◌++◌, length, set, slice_index, bit_or, bit_and, Option, Some, None, refl, sym, ap, ◌∙◌, subst, arith}
 use Rattle.std.specs.List.{sum_by}
 use mathlib.Core.Logic.{dite}
 use mathlib.Core.Option as maybe
 use native.Mathlib.Decide.{ℕ_discrete}
 use lib.ListN.{get_elem?}
-use Rattle.atomic_table.specs.Table.{State, Me, Act, Valid, carried_after, step, keeps, takes, gives, stepped, opening, Allows, rest}
+use Rattle.atomic_table.specs.Table.{State, Me, Act, Valid, carried_after, step, keeps, takes, gives, stepped, Allows, rest}
 use Rattle.atomic_table.proofs.Lists.{set_again}
 use Rattle.commit_lock.specs.declared.lock.SeatView.{SeatView}
 use Rattle.commit_lock.specs.Entries.{IsBeginning, GrowsBy, made_by}
-use Rattle.commit_lock.specs.Inside.LockRule.{turn, first_seat, Knows, Counts, LockRule}
+use Rattle.commit_lock.specs.Inside.LockRule.{turn, Knows, LockRule}
 use Rattle.commit_lock.specs.Inside.LockSteps.{with_turn, without_turn, Rests, TakesTurn, GivesTurn, MayLeave}
 use Rattle.commit_lock.proofs.Sums.{sum_by-set_at, sum_by-at_most, sum_by-two_at_most}
-use Rattle.commit_lock.proofs.Views.{only_one, set_there, each_changed}
+use Rattle.commit_lock.proofs.Views.{set_there, each_changed}
 use Rattle.commit_lock.proofs.Words.{word_found, word_left, word_kept, or_even, or_odd, and_odd}
 use Rattle.commit_lock.proofs.EntryLemmas.{begins_itself, begins_more, made_by-other}
-use Rattle.commit_lock.proofs.SeatNumbers.{lives_as-own, lives_as-other, differ, was_drawn, same_counts, few_made}
+use Rattle.commit_lock.proofs.SeatNumbers.{differ, was_drawn, same_counts, few_made}
 use Rattle.commit_lock.proofs.Witness.{seen_changed}
 
 -- the homes of a table with one slot
@@ -24,20 +24,6 @@ one_home : {A : Type 0} (homes : List (maybe.Option A)) (x : maybe.Option A) →
 one_home [] x is = absurd (omega arith)
 one_home (h ∷ []) x is = refl
 one_home (h ∷ k ∷ more) x is = absurd (omega arith)
-
--- the first seat of a lock has the number 0, and no other
-first_counts : {C E : Type 0} (c : C) → Counts 1 (first_seat {C = C} {E = E} c ∷ [])
-first_counts {C = C} {E = E} c =
-    let first : SeatView C E = first_seat c in record {
-      apart = λ n. dite (ℕ_discrete 0 n)
-          (λ is. let one = lives_as-own n first refl is in omega arith)
-          (λ is_not. let none = lives_as-other n first refl is_not in omega arith);
-      drawn = λ n above. let none = lives_as-other n first refl (λ is. omega arith) in omega arith;
-      below = λ place view at.
-          subst (λ (v : SeatView C E). v.number < 1) (only_one first view place at) (omega arith);
-      standing = refl;
-      rooms = refl;
-    }
 
 module _ {V C E : Type 0} (case_of : V → C) (entries_of : V → List E) (worker : E → ℕ) (key : C) where
   abbrev Table : Type 0
@@ -63,48 +49,6 @@ module _ {V C E : Type 0} (case_of : V → C) (entries_of : V → List E) (worke
   MayGive slots id first second me =
       Allows Rule slots id me 0 (λ n. bit_and n (2 ^ 64 - 2))
       (GivesTurn entries_of (step slots 0 first second maybe.none) me)
-
-  -- the case of the option, or another
-  case_or : C → Option C → C
-  case_or other (Some c) = c
-  case_or other None = other
-
-  -- a new lock has its rule
-  opens : (value : V) → entries_of value ≡ [] → case_of value ≡ key
-      → Rule (opening (2 ∷ []) (Some value ∷ []) (first_seat key))
-  unfolding case_or
-  opens value none is =
-      let first : SeatView C E = first_seat key in record {
-        log = [];
-        made = 1;
-        word = refl;
-        one_holder = omega arith;
-        free = λ _. (value, refl, is, none);
-        held = λ e. absurd (omega arith);
-        each = λ place view at. subst (Known []) (only_one first view place at) (record {
-          case = λ c e. ap (case_or key) (sym e);
-          seen = ([], refl);
-          own = λ _. refl;
-          holder = omega arith;
-          entered = λ e. absurd (omega arith);
-          standing = omega arith;
-          before = ([], refl);
-          beside = ([], refl);
-          kept = refl;
-          kept_beside = refl;
-          partner = λ _ e. omega arith;
-        });
-        counts = first_counts key;
-        numbers = λ n above. refl;
-        witness = (0, first, refl, omega arith, refl);
-      }
-
-  -- the same for slots to which the value was pushed
-  pub opens_with : (before slots : List (Option V)) (value : V) → before ≡ [] → slots ≡ before ++ Some value ∷ []
-      → entries_of value ≡ [] → case_of value ≡ key → Rule (opening (2 ∷ []) slots (first_seat key))
-  opens_with before slots value empty pushed none case =
-      let is : slots ≡ Some value ∷ [] = pushed ∙ ap (λ (l : List (Option V)). l ++ Some value ∷ []) empty in
-      subst (λ (l : List (Option V)). Rule (opening (2 ∷ []) l (first_seat key))) (sym is) (opens value none case)
 
   -- what a step that sets the turn bit may make of a seat
   abbrev Takes : ℕ → ℕ → ℕ → ℕ → SeatView C E → Table → Type 0

@@ -62,7 +62,8 @@ pub record Counts {C E : Type 0} (made : ℕ) (views : List (SeatView C E)) : Ty
   -- so no more than this number of seats is ever made, and the turn word never wraps
   pub rooms : made + sum_by room views ≡ most
 
-module _ {V C E : Type 0} (case_of : V → C) (entries_of : V → List E) (worker : E → ℕ) (key : C) where
+module _ {V C E : Type 0} (case_of : V → C) (entries_of : V → List E) (worker : E → ℕ)
+    (key : C) where
   -- the value is in the slot, and no seat has the slot
   abbrev pub IsAtHome : List E → List (maybe.Option (Option V)) → Type 0
   IsAtHome log homes =
@@ -87,7 +88,9 @@ module _ {V C E : Type 0} (case_of : V → C) (entries_of : V → List E) (worke
     pub before : IsBeginning view.before view.seen
     pub beside : IsBeginning view.beside view.seen
     pub kept : made_by worker view.number view.seen ≡ made_by worker view.number view.before
-    pub kept_beside : made_by worker view.partner view.seen ≡ made_by worker view.partner view.beside
+    pub kept_beside :
+        made_by worker view.partner view.seen ≡ made_by worker view.partner view.beside
+    -- and they had different numbers
     pub partner : view.live ≡ 1 → view.partner ≢ view.number
 
   pub record LockRule (state : State (Option V) (SeatView C E)) : Type 0 where

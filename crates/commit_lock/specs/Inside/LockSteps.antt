@@ -84,8 +84,8 @@ module _ {C E : Type 0} where
   }
 
 module _ {V C E : Type 0} (case_of : V → C) (entries_of : V → List E) (worker : E → ℕ) where
-  -- the value has the seat's case, and begins with all that the seat had seen, which has each of its
-  -- own entries
+  -- the value has the seat's case, it begins with all that the seat had seen, and that has each of
+  -- the seat's own entries
   abbrev pub IsFoundBy : SeatView C E → V → Type 0
   IsFoundBy view value =
       ((c : C) → view.case ≡ Some c → case_of value ≡ c)

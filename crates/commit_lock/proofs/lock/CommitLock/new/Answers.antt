@@ -1,5 +1,5 @@
 use Rattle.std.proofs.Common.{ap, sym}
-use Rattle.commit_lock.proofs.TurnSteps.{opens_with}
+use Rattle.commit_lock.proofs.Opening.{opens_with}
 use Rattle.commit_lock.proofs.lock.CommitLock.new.Goals as goal
 
 pub new-requires : goal.new-requires
