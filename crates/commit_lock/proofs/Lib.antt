@@ -1,0 +1,13 @@
+pub mod Sums
+pub mod Views
+pub mod Words
+pub mod DrawSteps
+pub mod EntryLemmas
+pub mod SeatNumbers
+pub mod SeatCounts
+pub mod Witness
+pub mod Opening
+pub mod TurnSteps
+pub mod SeatSteps
+pub mod Entering
+pub mod Closing

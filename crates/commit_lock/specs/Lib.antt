@@ -1,0 +1,4 @@
+pub mod Entries
+pub mod Seats
+pub mod Passes
+pub mod Inside
