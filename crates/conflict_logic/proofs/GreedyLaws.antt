@@ -8,7 +8,7 @@ use Rattle.conflict_logic.specs.Greedy.{family_of, kept_below, IsExactRepair}
 use Rattle.conflict_logic.proofs.RepairLaws.{repair_of_none, repair_with, repair_without, refused_is_accused}
 
 module _ (test : List ℕ → Bool) where
-  decide : (Goal : Type 0) (ranks : List ℕ) → (family_of test ranks → Goal) → (¬ (family_of test ranks) → Goal) → Goal
+  pub decide : (Goal : Type 0) (ranks : List ℕ) → (family_of test ranks → Goal) → (¬ (family_of test ranks) → Goal) → Goal
   decide Goal ranks if_clash if_not = by_answer (test ranks) refl
     where
       by_answer : (answer : Bool) → test ranks ≡ answer → Goal

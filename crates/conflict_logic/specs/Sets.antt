@@ -14,7 +14,8 @@ pub record IsProperPart (part whole : List ℕ) : Type 0 where
 
 -- more ranks never make an incoherent set coherent
 abbrev pub IsClosedUnderAdding : (List ℕ → Type 0) → Type 0
-IsClosedUnderAdding incoherent = (part whole : List ℕ) → IsPart part whole → incoherent part → incoherent whole
+IsClosedUnderAdding incoherent =
+    (part whole : List ℕ) → IsPart part whole → incoherent part → incoherent whole
 
 -- incoherent, and no proper part is
 pub record IsConflict (incoherent : List ℕ → Type 0) (ranks : List ℕ) : Type 0 where

@@ -5,7 +5,8 @@ ghost use Rattle.conflict_logic.specs.Accused.{IsAccused};
 ghost use Rattle.conflict_logic.specs.Repair.{IsRepair};
 ghost use Rattle.conflict_logic.specs.Worked.{IsChained, IsRepeated};
 
-/// Where rank 1 clashes with 0 and with 2, rank 1 alone is accused: once it is removed, nothing accuses rank 2.
+/// Where rank 1 clashes with 0 and with 2, rank 1 alone is accused: once it is removed, nothing
+/// accuses rank 2.
 pub fn chain_accuses_its_middle()
     ensures { (rank : ℕ) → IsAccused IsChained rank ↔ (rank ≡ 1) }
 {}

@@ -1,2 +1,4 @@
 pub mod Members
 pub mod Small
+pub mod ModelLaws
+pub mod Steps

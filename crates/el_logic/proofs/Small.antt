@@ -1,6 +1,6 @@
 -- What short lists contain.
 use Rattle.std.proofs.Common.{◌≡◌, ◌⊎◌, List, [], ◌∷◌, All, Contains, ⊎_elim, inl, inr, arith}
-use Rattle.std.proofs.lemmas.List.Elements.{All-contains, Contains-append_left, Contains-push, Contains-push_cases}
+use Rattle.std.proofs.lemmas.List.Elements.{All-nil, All-cons, All-contains, Contains-append_left, Contains-append_right, Contains-push, Contains-push_cases}
 
 pub in_none : {X : Type 0} → (x : X) → Contains [] x → ⊥
 in_none x h = absurd (omega (arith, h.1))
@@ -22,3 +22,17 @@ second_of_two a b = Contains-push (a ∷ []) b
 
 pub all_of : {X : Type 0} → (P : X → Type 0) (xs : List X) (x : X) → All P xs → Contains xs x → P x
 all_of P xs x h k = All-contains P xs x h k
+
+-- the same of three elements
+pub first_of_three : {X : Type 0} → (a b c : X) → Contains (a ∷ b ∷ c ∷ []) a
+first_of_three a b c = Contains-append_left (a ∷ []) (b ∷ c ∷ []) a (one_holds a)
+
+pub second_of_three : {X : Type 0} → (a b c : X) → Contains (a ∷ b ∷ c ∷ []) b
+second_of_three a b c = Contains-append_left (a ∷ b ∷ []) (c ∷ []) b (second_of_two a b)
+
+pub third_of_three : {X : Type 0} → (a b c : X) → Contains (a ∷ b ∷ c ∷ []) c
+third_of_three a b c = Contains-append_right (a ∷ b ∷ []) (c ∷ []) c (one_holds c)
+
+-- what both of two elements pass
+pub all_of_two : {X : Type 0} → (P : X → Type 0) (a b : X) → P a → P b → All P (a ∷ b ∷ [])
+all_of_two P a b p q = All-cons P a (b ∷ []) p (All-cons P b [] q (All-nil P))

@@ -1,4 +1,5 @@
--- What expressions and axioms mean in an interpretation: the direct semantics of OWL 2, over finite domains.
+-- What expressions and axioms mean in an interpretation: the direct semantics of OWL 2, over finite
+-- domains.
 use Rattle.std.specs.Prelude.{◌≡◌, ℕ, ◌<◌, ◌≤◌, List, [], ◌∷◌, length, slice_index_or, All, Contains, ⊤}
 use Rattle.el_logic.specs.declared.types.Expr.{Expr, Row_of-Expr, end_of-Expr, more_of-Expr}
 use Rattle.el_logic.specs.declared.types.Expr.TheVariants.{Top, Bottom, Name, And', Exists'}
@@ -28,7 +29,8 @@ abbrev mutual
   IsMember i x Bottom = ⊥
   IsMember i x (Name c) = Contains (members_of i c) x
   IsMember i x (And' _ es) = (x < i.size) × IsInEach i x es
-  IsMember i x (Exists' r _ (more_of-Expr e _)) = (y : ℕ) × Contains (pairs_of i r) (x, y) × IsMember i y e
+  IsMember i x (Exists' r _ (more_of-Expr e _)) =
+      (y : ℕ) × Contains (pairs_of i r) (x, y) × IsMember i y e
 
   -- and to each operand of an intersection
   pub IsInEach : {n : _} → Interp → ℕ → Row_of-Expr n → Type 0
@@ -58,7 +60,8 @@ Holds i (SubClass c d) = IsWithin i c d
 Holds i (Equivalent cs) = All (λ c. All (λ d. IsWithin i c d) cs) cs
 Holds i (Disjoint cs) = AreApart i cs
 Holds i (SubRole chain s) = (x y : ℕ) → AreChained i chain x y → AreRelated i s x y
-Holds i (EquivalentRoles rs) = All (λ r. All (λ s. (x y : ℕ) → AreRelated i r x y → AreRelated i s x y) rs) rs
+Holds i (EquivalentRoles rs) =
+    All (λ r. All (λ s. (x y : ℕ) → AreRelated i r x y → AreRelated i s x y) rs) rs
 Holds i (Transitive r) = (x y z : ℕ) → AreRelated i r x y → AreRelated i r y z → AreRelated i r x z
 Holds i (Reflexive r) = (x : ℕ) → x < i.size → AreRelated i r x x
 Holds i (Domain r c) = (x y : ℕ) → AreRelated i r x y → IsMember i x c

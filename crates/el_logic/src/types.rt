@@ -1,3 +1,5 @@
+//! Expressions, axioms and interpretations.
+
 use sqlite_items::{Boxed, Items};
 
 /// A list, which contracts see as the list of its elements. A type may reach itself through it.
@@ -21,7 +23,8 @@ pub type Exprs = ListOf<Expr>;
 /// Axioms, as those of a document.
 pub type Axioms = ListOf<Axiom>;
 
-/// A class expression over numbered class names and property names (OWL 2 structural specification, section 8).
+/// A class expression over numbered class names and property names (OWL 2 structural specification,
+/// section 8).
 #[derive(Debug, Drop)]
 pub enum Expr {
     /// `owl:Thing`

@@ -3,3 +3,4 @@ pub mod Faults
 pub mod Files
 pub mod MemFolder
 pub mod MemSink
+pub mod Untold

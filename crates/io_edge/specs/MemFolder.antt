@@ -1,7 +1,7 @@
 -- What a folder in memory holds, and what its calls answer.
 use Rattle.std.specs.Prelude.{◌≡◌, ℕ, ◌<◌, ◌≤◌, List, length, Option, Some, None}
 use Rattle.io_edge.specs.Files.{files_in}
-use Rattle.io_edge.specs.Outside.{Files, with_file}
+use Rattle.io_edge.specs.Outside.{Files, FolderSeen, with_file}
 use Rattle.io_edge.specs.declared.outside.ReadAnswer.{ReadAnswer}
 use Rattle.io_edge.specs.declared.outside.WriteAnswer.{WriteAnswer}
 use Rattle.io_edge.specs.declared.outside.ReadAnswer.TheVariants as Read
@@ -24,6 +24,14 @@ failing_of folder = folder.schedule.failing.items
 abbrev pub faults_of : MemFolder → ℕ
 faults_of folder = folder.schedule.faults
 
+-- it tells all its files, and counts the faults of all names together
+abbrev pub seen_of : MemFolder → FolderSeen
+seen_of folder = record {
+  files = Some (files_of folder);
+  read_faults = λ _. faults_of folder;
+  write_faults = λ _. faults_of folder;
+}
+
 -- all but the files is as before
 pub record ChangesOnlyFiles (old new : MemFolder) : Type 0 where
   pub calls : calls_of new ≡ calls_of old
@@ -36,10 +44,12 @@ pub record ChangesOnlyFailing (old new : MemFolder) : Type 0 where
   pub calls : calls_of new ≡ calls_of old
   pub faults : faults_of new ≡ faults_of old
 
--- what a read answers, by the file of this name, where there is one, and by whether the call is one that fails
+-- what a read answers, by the file of this name, if there is one, and by whether the call is one
+-- that fails
 abbrev pub AnswersRead : Option (List ℕ) → ℕ → Type 0 → ReadAnswer → Type 0
 AnswersRead None max fails answer = answer ≡ Read.Failed
-AnswersRead (Some bytes) max fails (Read.Whole read) = (read ≡ bytes) × (length bytes ≤ max) × (¬ fails)
+AnswersRead (Some bytes) max fails (Read.Whole read) =
+    (read ≡ bytes) × (length bytes ≤ max) × (¬ fails)
 AnswersRead (Some bytes) max fails Read.TooLong = max < length bytes
 AnswersRead (Some bytes) max fails Read.Failed = (length bytes ≤ max) × fails
 AnswersRead (Some bytes) max fails Read.OutOfMemory = (length bytes ≤ max) × (¬ fails)

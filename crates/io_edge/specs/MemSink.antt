@@ -1,5 +1,6 @@
 -- What a sink in memory holds, and what its calls answer.
-use Rattle.std.specs.Prelude.{◌≡◌, ℕ, List, ◌++◌}
+use Rattle.std.specs.Prelude.{◌≡◌, ℕ, List, ◌++◌, Some}
+use Rattle.io_edge.specs.Outside.{SinkSeen}
 use Rattle.io_edge.specs.declared.outside.PutAnswer.{PutAnswer}
 use Rattle.io_edge.specs.declared.outside.PutAnswer.TheVariants as Put
 use Rattle.io_edge.specs.declared.memory.MemSink.{MemSink}
@@ -19,6 +20,10 @@ failing_of sink = sink.schedule.failing.items
 -- how many calls have failed, up to the end of the counter's type
 abbrev pub faults_of : MemSink → ℕ
 faults_of sink = sink.schedule.faults
+
+-- it tells all that it has got
+abbrev pub seen_of : MemSink → SinkSeen
+seen_of sink = record { got = Some (bytes_of sink); faults = faults_of sink }
 
 -- all but the list of failing calls is as before
 pub record ChangesOnlyFailing (old new : MemSink) : Type 0 where

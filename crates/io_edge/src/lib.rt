@@ -7,5 +7,7 @@ mod real;
 mod schedule;
 
 pub use memory::{MemFolder, MemSink};
-pub use outside::{Folder, PutAnswer, ReadAnswer, Role, Sink, Target, WriteAnswer};
+pub use outside::{
+    Folder, PutAnswer, ReadAnswer, Role, Sink, Target, WriteAnswer, rose_is_greater_or_at_the_end,
+};
 pub use real::{RealFolder, StdSink};

@@ -1,8 +1,9 @@
-ghost use Rattle.std.specs.Prelude.{◌≡◌, ◌<◌, ◌≤◌, ◌-◌, ◌^◌, [], ◌∷◌, ◌++◌, Contains, Some, None, OnOk, OnErr};
+//! A folder and a sink in memory, for tests.
+ghost use Rattle.std.specs.Prelude.{◌≡◌, ◌<◌, ◌≤◌, ◌-◌, ◌^◌, [], ◌∷◌, ◌++◌, Contains, None, OnOk, OnErr};
 ghost use Rattle.std.specs.Option.{option_copied};
 ghost use Rattle.io_edge.specs.Files.{files_in};
 ghost use Rattle.io_edge.specs.Faults.{count_after, faults_after_read, faults_after_write, faults_after_put};
-ghost use Rattle.io_edge.specs.Outside.{ReadAnswers, WriteAnswers, PutAnswers, with_file};
+ghost use Rattle.io_edge.specs.Outside.{FaultsNeverFall, ReadAnswers, WriteAnswers, PutAnswers, with_file};
 
 use crate::schedule::Schedule;
 use crate::{Folder, PutAnswer, ReadAnswer, Sink, WriteAnswer};
@@ -10,16 +11,19 @@ use std::alloc::{AllocError, Global};
 use std::collections::BTreeMap;
 use text_names::{Bytes, Text};
 
-/// A folder in memory, for tests. It tells all its files, and fails in the calls that it is told to fail in.
+/// A folder in memory, for tests. It tells all its files, and fails in the calls that it is told to
+/// fail in.
 ///
 /// Reads and writes are numbered together, from 1. A failing write takes nothing.
 #[derive(Debug, Drop)]
 pub struct MemFolder {
+    alloc: Global,
     files: BTreeMap<String, Bytes>,
     schedule: Schedule,
 }
 
-/// A sink in memory, for tests. It tells all that it has got, and fails in the calls that it is told to fail in.
+/// A sink in memory, for tests. It tells all that it has got, and fails in the calls that it is
+/// told to fail in.
 ///
 /// Puts are numbered from 1. A failing put takes nothing.
 #[derive(Debug, Drop)]
@@ -36,7 +40,8 @@ fn insert_file(
     name: &Text,
     bytes: &[u8],
 ) -> Result<(), AllocError>
-    ensures ok { OnOk result (files_in files.new ≡ with_file (files_in files.old) name.now bytes.now) }
+    ensures ok { OnOk result
+        (files_in files.new ≡ with_file (files_in files.old) name.now bytes.now) }
     ensures err { OnErr result (files.new.entries ≡ files.old.entries) }
 {
     let key = String::from_str(alloc, name.as_str())?;
@@ -56,21 +61,24 @@ impl MemFolder {
         ensures faults { faults_of result ≡ 0 }
     {
         MemFolder {
+            alloc,
             files: BTreeMap::new(alloc),
             schedule: Schedule::new(alloc),
         }
     }
 
-    /// Makes a file hold these bytes, whether it was there or not. This is no call that is numbered.
-    pub fn set(&mut self, alloc: Global, name: &Text, bytes: &[u8]) -> Result<(), AllocError>
-        ensures ok { OnOk result (files_of self.new ≡ with_file (files_of self.old) name.now bytes.now) }
+    /// Makes a file hold these bytes, whether it was there or not. This is no call that is
+    /// numbered.
+    pub fn set(&mut self, name: &Text, bytes: &[u8]) -> Result<(), AllocError>
+        ensures ok { OnOk result
+            (files_of self.new ≡ with_file (files_of self.old) name.now bytes.now) }
         ensures err { OnErr result (files_of self.new ≡ files_of self.old) }
         ensures others { ChangesOnlyFiles self.old self.new }
     {
-        insert_file(alloc, &mut self.files, name, bytes)
+        insert_file(self.alloc, &mut self.files, name, bytes)
     }
 
-    /// The bytes of a file, where there is one of this name.
+    /// The bytes of a file, if there is one of this name.
     pub fn file(&self, name: &Text) -> Option<&[u8]>
         ensures { option_copied result ≡ files_of self.now name.now }
     {
@@ -91,21 +99,18 @@ impl MemFolder {
 }
 
 impl Folder for MemFolder {
-    ghost use Rattle.io_edge.specs.MemFolder.{files_of, calls_of, failing_of, faults_of, AnswersRead, AnswersWrite};
+    ghost use Rattle.io_edge.specs.MemFolder.{files_of, seen_of, calls_of, failing_of, faults_of, AnswersRead, AnswersWrite};
 
-    ghost files = { λ folder. Some (files_of folder) };
-
-    ghost read_faults = { λ folder _. faults_of folder };
-
-    ghost write_faults = { λ folder _. faults_of folder };
+    ghost seen = { λ folder. seen_of folder };
 
     fn read(&mut self, alloc: Global, name: &Text, max: u64) -> ReadAnswer
         ensures files { files_of self.new ≡ files_of self.old }
-        ensures answer { ReadAnswers (Some (files_of self.old)) (faults_of self.old) (faults_of self.new) name.now max result }
-        ensures later { faults_of self.old ≤ faults_of self.new }
+        ensures answer { ReadAnswers (seen_of self.old) (seen_of self.new) name.now max result }
+        ensures later { FaultsNeverFall (seen_of self.old) (seen_of self.new) }
 
         // What this folder says beyond the trait.
-        ensures exact { AnswersRead (files_of self.old name.now) max (Contains (failing_of self.old) (calls_of self.new)) result }
+        ensures exact { let fails = Contains (failing_of self.old) (calls_of self.new) in
+            AnswersRead (files_of self.old name.now) max fails result }
         ensures limit { result ≡ ReadAnswer.TooLong → max < 2 ^ 64 - 1 }
         ensures calls { calls_of self.new ≡ count_after (calls_of self.old) }
         ensures failing { failing_of self.new ≡ failing_of self.old }
@@ -133,13 +138,14 @@ impl Folder for MemFolder {
         }
     }
 
-    #[tactic(auto, using(crate::proofs::FileLemmas::failed_write))]
     fn write(&mut self, alloc: Global, name: &Text, bytes: &[u8]) -> WriteAnswer
-        ensures answer { WriteAnswers (Some (files_of self.old)) (Some (files_of self.new)) (faults_of self.old) (faults_of self.new) name.now bytes.now result }
-        ensures later { faults_of self.old ≤ faults_of self.new }
+        ensures answer { WriteAnswers (seen_of self.old) (seen_of self.new)
+            name.now bytes.now result }
+        ensures later { FaultsNeverFall (seen_of self.old) (seen_of self.new) }
 
         // What this folder says beyond the trait.
-        ensures exact { AnswersWrite (files_of self.old) (files_of self.new) name.now bytes.now (Contains (failing_of self.old) (calls_of self.new)) result }
+        ensures exact { let fails = Contains (failing_of self.old) (calls_of self.new) in
+            AnswersWrite (files_of self.old) (files_of self.new) name.now bytes.now fails result }
         ensures calls { calls_of self.new ≡ count_after (calls_of self.old) }
         ensures failing { failing_of self.new ≡ failing_of self.old }
         ensures faults { faults_of self.new ≡ faults_after_write (faults_of self.old) result }
@@ -189,18 +195,17 @@ impl MemSink {
 }
 
 impl Sink for MemSink {
-    ghost use Rattle.io_edge.specs.MemSink.{bytes_of, calls_of, failing_of, faults_of, AnswersPut};
+    ghost use Rattle.io_edge.specs.MemSink.{bytes_of, seen_of, calls_of, failing_of, faults_of, AnswersPut};
 
-    ghost got = { λ sink. Some (bytes_of sink) };
-
-    ghost faults = { λ sink. faults_of sink };
+    ghost seen = { λ sink. seen_of sink };
 
     fn put(&mut self, _alloc: Global, bytes: &[u8]) -> PutAnswer
-        ensures answer { PutAnswers (Some (bytes_of self.old)) (Some (bytes_of self.new)) (faults_of self.old) (faults_of self.new) bytes.now result }
+        ensures answer { PutAnswers (seen_of self.old) (seen_of self.new) bytes.now result }
         ensures later { faults_of self.old ≤ faults_of self.new }
 
         // What this sink says beyond the trait.
-        ensures exact { AnswersPut (bytes_of self.old) (bytes_of self.new) bytes.now (Contains (failing_of self.old) (calls_of self.new)) result }
+        ensures exact { let fails = Contains (failing_of self.old) (calls_of self.new) in
+            AnswersPut (bytes_of self.old) (bytes_of self.new) bytes.now fails result }
         ensures calls { calls_of self.new ≡ count_after (calls_of self.old) }
         ensures failing { failing_of self.new ≡ failing_of self.old }
         ensures faults { faults_of self.new ≡ faults_after_put (faults_of self.old) result }
@@ -245,9 +250,9 @@ mod tests {
             ("missing", 3, 1, Err("failed")),
         ] {
             let mut folder = MemFolder::new(alloc);
-            folder.set(alloc, &Text::of(alloc, b"there")?, b"old bytes")?;
-            folder.set(alloc, &Text::of(alloc, b"empty")?, b"")?;
-            folder.set(alloc, &Text::of(alloc, b"there")?, b"new")?;
+            folder.set(&Text::of(alloc, b"there")?, b"old bytes")?;
+            folder.set(&Text::of(alloc, b"empty")?, b"")?;
+            folder.set(&Text::of(alloc, b"there")?, b"new")?;
             folder.fail(failing)?;
             let answer = folder.read(alloc, &Text::of(alloc, name.as_bytes())?, max);
             assert_eq!(rt;
@@ -264,7 +269,7 @@ mod tests {
         let alloc = rt.alloc();
         let mut folder = MemFolder::new(alloc);
         let (a, b) = (Text::of(alloc, b"a")?, Text::of(alloc, b"b")?);
-        folder.set(alloc, &b, b"kept")?;
+        folder.set(&b, b"kept")?;
         folder.fail(3)?;
         for (bytes, answer, file) in [
             (b"first", WriteAnswer::Done, b"first"),

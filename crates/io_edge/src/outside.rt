@@ -1,5 +1,6 @@
-ghost use Rattle.std.specs.Prelude.{◌≡◌, ◌≤◌, ℕ, List, Option};
-ghost use Rattle.io_edge.specs.Outside.{NeverFall, ReadAnswers, WriteAnswers, PutAnswers};
+//! The outside as two traits: files by name, and lines of output.
+ghost use Rattle.std.specs.Prelude.{◌≡◌, ◌↔◌, ◌⊎◌, ◌<◌, ◌≤◌, ◌-◌, ◌^◌, ℕ};
+ghost use Rattle.io_edge.specs.Outside.{FolderSeen, SinkSeen, FaultsNeverFall, Rose, ReadAnswers, WriteAnswers, PutAnswers};
 
 use std::alloc::Global;
 use text_names::{Bytes, Text};
@@ -29,7 +30,7 @@ pub enum ReadAnswer {
     Whole(Bytes),
     /// The file has more bytes than were asked for.
     TooLong,
-    /// The device failed, or no file has this name.
+    /// The system reported an error, or no file has this name.
     Failed,
     OutOfMemory,
 }
@@ -38,7 +39,8 @@ pub enum ReadAnswer {
 #[derive(Clone, Copy, Debug, PartialEq, Eq)]
 pub enum WriteAnswer {
     Done,
-    /// The device failed; the file is as before or has a front of the new bytes.
+    /// The system reported an error; the file is as before or holds the first bytes of the new
+    /// ones.
     Failed,
     /// Nothing was written.
     OutOfMemory,
@@ -48,47 +50,46 @@ pub enum WriteAnswer {
 #[derive(Clone, Copy, Debug, PartialEq, Eq)]
 pub enum PutAnswer {
     Done,
-    /// The device failed after a front of the piece.
+    /// The system reported an error after the first bytes of the piece.
     Failed,
     /// Nothing was put.
     OutOfMemory,
 }
 
-/// Files by name. A folder may tell what its files hold, as one in memory does, or tell nothing, as the system's does.
+/// Files by name. A folder may tell what its files hold, as one in memory does, or tell nothing, as
+/// the system's does.
 pub trait Folder {
-    /// The bytes of each file by its name, where they are told.
-    ghost files: { Self → Option (List ℕ → Option (List ℕ)) };
-
-    /// How often a read of this name has failed.
-    ghost read_faults: { Self → List ℕ → ℕ };
-
-    /// How often a write of this name has failed.
-    ghost write_faults: { Self → List ℕ → ℕ };
+    /// What clauses see of it: its files, if it tells them, and its counts of faults by name.
+    ghost seen: { Self → FolderSeen };
 
     /// Reads a whole file of at most `max` bytes. No file changes.
     fn read(&mut self, alloc: Global, name: &Text, max: u64) -> ReadAnswer
-        ensures files { files self.new ≡ files self.old }
-        ensures answer { ReadAnswers (files self.old) (read_faults self.old name.now) (read_faults self.new name.now) name.now max result }
-        ensures reads { NeverFall (read_faults self.old) (read_faults self.new) }
-        ensures writes { NeverFall (write_faults self.old) (write_faults self.new) };
+        ensures files { (seen self.new).files ≡ (seen self.old).files }
+        ensures answer { ReadAnswers (seen self.old) (seen self.new) name.now max result }
+        ensures later { FaultsNeverFall (seen self.old) (seen self.new) };
 
     /// Makes a file hold these bytes, whether it was there or not. No other file changes.
     fn write(&mut self, alloc: Global, name: &Text, bytes: &[u8]) -> WriteAnswer
-        ensures answer { WriteAnswers (files self.old) (files self.new) (write_faults self.old name.now) (write_faults self.new name.now) name.now bytes.now result }
-        ensures reads { NeverFall (read_faults self.old) (read_faults self.new) }
-        ensures writes { NeverFall (write_faults self.old) (write_faults self.new) };
+        ensures answer { WriteAnswers (seen self.old) (seen self.new) name.now bytes.now result }
+        ensures later { FaultsNeverFall (seen self.old) (seen self.new) };
 }
 
 /// Where lines of output are put.
 pub trait Sink {
-    /// The bytes that it has got, where they are told.
-    ghost got: { Self → Option (List ℕ) };
+    /// What clauses see of it: the bytes that it has got, if it tells them, and its count of
+    /// faults.
+    ghost seen: { Self → SinkSeen };
 
-    /// How often a put has failed.
-    ghost faults: { Self → ℕ };
-
-    /// Puts a piece behind what was put before. A piece that is not empty and of which nothing is taken is a fault.
+    /// Puts a piece after what was put before. It is a fault if the piece is not empty and nothing
+    /// of it is taken.
     fn put(&mut self, alloc: Global, bytes: &[u8]) -> PutAnswer
-        ensures answer { PutAnswers (got self.old) (got self.new) (faults self.old) (faults self.new) bytes.now result }
-        ensures later { faults self.old ≤ faults self.new };
+        ensures answer { PutAnswers (seen self.old) (seen self.new) bytes.now result }
+        ensures later { (seen self.old).faults ≤ (seen self.new).faults };
 }
+
+/// A count rose if it is greater than before, or if it stands at the end of its type, where
+/// counters stop.
+pub fn rose_is_greater_or_at_the_end()
+    ensures { (before now : ℕ) → now < 2 ^ 64
+        → Rose before now ↔ ((before < now) ⊎ (now ≡ 2 ^ 64 - 1)) }
+{}

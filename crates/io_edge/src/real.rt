@@ -1,7 +1,9 @@
-ghost use Rattle.std.specs.Prelude.{◌≡◌, ◌≢◌, ◌<◌, ◌-◌, ◌^◌, ◌≤◌, length, vec_len, None, IfOk, IfSome, OnOk};
+//! The system's files and output.
+ghost use Rattle.std.specs.Prelude.{◌≡◌, ◌≢◌, ◌<◌, ◌-◌, ◌^◌, ◌≤◌, length, vec_len, IfOk, IfSome, OnOk};
 ghost use Rattle.std.specs.Io.KnownBytes.{Appends};
 ghost use Rattle.io_edge.specs.Faults.{faults_after_read, faults_after_write, faults_after_put};
-ghost use Rattle.io_edge.specs.Outside.{ReadAnswers, WriteAnswers, PutAnswers};
+ghost use Rattle.io_edge.specs.Outside.{FaultsNeverFall, ReadAnswers, WriteAnswers, PutAnswers};
+ghost use Rattle.io_edge.specs.Untold.{folder_with_faults, sink_with_faults};
 
 use crate::{Folder, PutAnswer, ReadAnswer, Sink, WriteAnswer};
 use std::alloc::Global;
@@ -13,8 +15,9 @@ use text_names::{Bytes, Text};
 
 /// The files of the system, by their paths. Contracts see the count of its faults.
 ///
-/// It tells nothing of what the files hold, and counts each error of the system once, an interrupted call too. A write
-/// begins by making the file empty, so after a failure its old content may be gone.
+/// It tells nothing of what the files hold, and counts each error of the system once, an
+/// interrupted call too. A write begins by making the file empty, so after a failure its old
+/// content may be gone.
 #[derive(Drop)]
 pub struct RealFolder<'a, R> {
     rt: &'a R,
@@ -31,7 +34,8 @@ impl<'a, R> Model for RealFolder<'a, R> {
 
 /// The standard output. Contracts see the count of its faults.
 ///
-/// It tells nothing of what was put, and counts each error of the system once, an interrupted call too.
+/// It tells nothing of what was put, and counts each error of the system once, an interrupted call
+/// too.
 #[derive(Drop)]
 pub struct StdSink<'a, R> {
     rt: &'a R,
@@ -56,8 +60,10 @@ enum ReadFault {
 // Reads to the end, unless that is more than `max` bytes.
 fn read_whole<R: Read>(alloc: Global, file: &mut R, max: u64) -> Result<Vec<u8>, ReadFault>
     ensures bound { IfOk result (λ bytes. vec_len bytes ≤ max) }
-    ensures whole { IfOk result (λ bytes. IfSome (R.remaining file.old) (λ all. bytes.items ≡ all)) }
-    ensures longer { result ≡ Err ReadFault.TooLong → IfSome (R.remaining file.old) (λ all. max < length all) }
+    ensures whole { IfOk result
+        (λ bytes. IfSome (R.remaining file.old) (λ all. bytes.items ≡ all)) }
+    ensures longer { result ≡ Err ReadFault.TooLong
+        → IfSome (R.remaining file.old) (λ all. max < length all) }
     ensures limit { result ≡ Err ReadFault.TooLong → max < 2 ^ 64 - 1 }
 {
     let mut bytes = Vec::new(alloc);
@@ -104,15 +110,12 @@ impl<'a, R: Files> RealFolder<'a, R> {
 }
 
 impl<'a, R: Files> Folder for RealFolder<'a, R> {
-    ghost files = { λ _. None };
-
-    ghost read_faults = { λ folder _. folder };
-
-    ghost write_faults = { λ folder _. folder };
+    ghost seen = { λ folder. folder_with_faults folder };
 
     fn read(&mut self, alloc: Global, name: &Text, max: u64) -> ReadAnswer
-        ensures answer { ReadAnswers None self.old self.new name.now max result }
-        ensures later { self.old ≤ self.new }
+        ensures answer { ReadAnswers (folder_with_faults self.old) (folder_with_faults self.new)
+            name.now max result }
+        ensures later { FaultsNeverFall (folder_with_faults self.old) (folder_with_faults self.new) }
 
         // What this folder says beyond the trait.
         ensures limit { result ≡ ReadAnswer.TooLong → max < 2 ^ 64 - 1 }
@@ -134,8 +137,9 @@ impl<'a, R: Files> Folder for RealFolder<'a, R> {
     }
 
     fn write(&mut self, _alloc: Global, name: &Text, bytes: &[u8]) -> WriteAnswer
-        ensures answer { WriteAnswers None None self.old self.new name.now bytes.now result }
-        ensures later { self.old ≤ self.new }
+        ensures answer { WriteAnswers (folder_with_faults self.old) (folder_with_faults self.new)
+            name.now bytes.now result }
+        ensures later { FaultsNeverFall (folder_with_faults self.old) (folder_with_faults self.new) }
 
         // What this folder says beyond the trait.
         ensures faults { self.new ≡ faults_after_write self.old result }
@@ -164,12 +168,11 @@ impl<'a, R: Print> StdSink<'a, R> {
 }
 
 impl<'a, R: Print> Sink for StdSink<'a, R> {
-    ghost got = { λ _. None };
-
-    ghost faults = { λ sink. sink };
+    ghost seen = { λ sink. sink_with_faults sink };
 
     fn put(&mut self, _alloc: Global, bytes: &[u8]) -> PutAnswer
-        ensures answer { PutAnswers None None self.old self.new bytes.now result }
+        ensures answer { PutAnswers (sink_with_faults self.old) (sink_with_faults self.new)
+            bytes.now result }
         ensures later { self.old ≤ self.new }
 
         // What this sink says beyond the trait.
@@ -189,6 +192,8 @@ impl<'a, R: Print> Sink for StdSink<'a, R> {
 #[cfg(test)]
 mod tests {
     use super::*;
+    use std::cell::RefCell;
+    use std::fmt::Display;
     use std::test::Fail;
 
     #[test]
@@ -211,10 +216,49 @@ mod tests {
         Ok(())
     }
 
+    // An output that keeps what is written, at most four bytes at a time.
+    #[derive(Drop)]
+    struct Kept {
+        bytes: RefCell<Vec<u8>>,
+    }
+
+    impl Print for Kept {
+        fn print<D: Display + Drop>(&self, _value: D) -> io::Result<()> {
+            Err(io::Error::from(ErrorKind::Unsupported))
+        }
+
+        fn println<D: Display + Drop>(&self, _value: D) -> io::Result<()> {
+            Err(io::Error::from(ErrorKind::Unsupported))
+        }
+
+        fn write_all(&self, bytes: &[u8]) -> io::Result<()> {
+            let Ok(mut kept) = self.bytes.try_borrow_mut() else {
+                return Err(io::Error::from(ErrorKind::ResourceBusy));
+            };
+            kept.extend_from_slice(bytes)
+                .map_err(|_| io::Error::from(ErrorKind::OutOfMemory))
+        }
+
+        fn write_some(&self, bytes: &[u8]) -> io::Result<usize> {
+            let count = bytes.len().min(4);
+            self.write_all(&bytes[..count])?;
+            Ok(count)
+        }
+    }
+
     #[test]
-    fn puts_a_line(rt: HostRuntime) {
-        let mut sink = StdSink::new(&rt);
-        let answer = sink.put(rt.alloc(), b"a line\n");
-        assert_eq!(rt; answer, PutAnswer::Done);
+    fn puts_whole_lines(rt: HostRuntime) -> Result<(), Fail> {
+        let output = Kept {
+            bytes: RefCell::new(Vec::new(rt.alloc())),
+        };
+        let mut sink = StdSink::new(&output);
+        for line in [b"a line\n".as_slice(), b"", b"another\n"] {
+            assert_eq!(rt; sink.put(rt.alloc(), line), PutAnswer::Done, "{line:?}");
+        }
+        assert_eq!(rt;
+            output.bytes.try_borrow()?.as_slice(),
+            b"a line\nanother\n".as_slice()
+        );
+        Ok(())
     }
 }

@@ -1,4 +1,4 @@
-// Which calls of a fake fail, how many were made and how many faults were counted.
+//! Which calls of a fake fail, how many were made and how many faults were counted.
 ghost use Rattle.std.specs.Prelude.{◌≡◌, ◌↔◌, ◌≤◌, [], ◌∷◌, ◌++◌, Contains, IsTrue, OnOk, OnErr};
 ghost use Rattle.io_edge.specs.Faults.{count_after};
 

@@ -14,7 +14,7 @@ use Rattle.plain_logic.specs.declared.axioms.PlainAxiom.TheVariants.{SubClass, D
 use Rattle.plain_logic.specs.declared.axioms.PlainRow.{PlainRow}
 use Rattle.plain_logic.specs.Plain.{NamesBelow, RowBelow, names_below, row_below, row_at, axioms_of_row}
 use Rattle.repair_run.specs.Choice.{AreMarked}
-use Rattle.repair_run.specs.Diagnosis.{rows_at}
+use Rattle.repair_run.specs.Inside.Diagnosis.{rows_at}
 
 -- names stay within more classes
 pub names_stay : (n m : ℕ) (p : PlainAxiom) → n ≤ m → NamesBelow n p → NamesBelow m p

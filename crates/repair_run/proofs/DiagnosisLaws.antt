@@ -9,8 +9,8 @@ use Rattle.plain_logic.specs.Plain.{axiom_of}
 use Rattle.repair_run.specs.declared.status.Status.{Status}
 use Rattle.repair_run.specs.declared.first_form.DocumentText.{DocumentText}
 use Rattle.repair_run.specs.Axioms.{IsFound, axioms_in, axioms_of_both, class_names, iris_in, with_names}
-use Rattle.repair_run.specs.Diagnosis.{IsPartStop, IsAxiomStop, IsDiagnosisStop}
-use Rattle.repair_run.specs.Stated.{stated_all}
+use Rattle.repair_run.specs.Inside.Diagnosis.{IsPartStop, IsAxiomStop, IsDiagnosisStop}
+use Rattle.repair_run.specs.Inside.Stated.{stated_all}
 use Rattle.repair_run.proofs.NumberLaws.{later_than_all}
 
 -- the axioms of two lists, one behind the other

@@ -15,8 +15,8 @@ use Rattle.plain_logic.specs.Plain.{axiom_of, axioms_of_row, axioms_of_ranks, ro
 use Rattle.plain_logic.specs.Ranks.{AreIncoherentRanks}
 use Rattle.repair_run.specs.declared.first_form.TableText.{TableText}
 use Rattle.repair_run.specs.Axioms.{row_axioms, inert_count, axioms_ranked}
-use Rattle.repair_run.specs.Diagnosis.{AreIncoherentWith}
-use Rattle.repair_run.specs.Stated.{stated_all, stated_by, silent_count}
+use Rattle.repair_run.specs.Inside.Diagnosis.{AreIncoherentWith}
+use Rattle.repair_run.specs.Inside.Stated.{stated_all, stated_by, silent_count}
 
 map_same : {X Y : Type 0} (f g : X → Y) → ((x : X) → f x ≡ g x) → (xs : List X) → map f xs ≡ map g xs
 map_same f g h [] = refl

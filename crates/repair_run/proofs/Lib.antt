@@ -12,3 +12,4 @@ pub mod FamilyLaws
 pub mod FoundLaws
 pub mod ChoiceLaws
 pub mod OutcomeLaws
+pub mod AnswerLaws

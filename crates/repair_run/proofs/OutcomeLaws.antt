@@ -11,12 +11,12 @@ use Rattle.repair_run.specs.declared.first_form.DocumentText.{DocumentText}
 use Rattle.repair_run.specs.declared.first_form.TableText.{TableText}
 use Rattle.repair_run.specs.Axioms.{axioms_of_both, class_names}
 use Rattle.repair_run.specs.Choice.{confidence_of, AreMarked, IsChosen}
-use Rattle.repair_run.specs.Diagnosis.{AreIncoherentWith}
+use Rattle.repair_run.specs.Inside.Diagnosis.{AreIncoherentWith}
 use Rattle.repair_run.specs.FirstForm.{repaired_text}
 use Rattle.repair_run.specs.Run.{Outcome, kept_count, out_text, summary_of, summary_text}
 use Rattle.repair_run.specs.Words.{FileNames}
 use Rattle.repair_run.proofs.ChoiceLaws.{ranking_length, ranking_below}
-use Rattle.repair_run.proofs.RunLaws.{same_read}
+use Rattle.repair_run.proofs.AnswerLaws.{same_read}
 
 -- whatever a function gives of the elements of a list it gives of those of a longer one
 mapped_part : (f : ℕ → ℕ) (xs ys : List ℕ) → ((x : ℕ) → Contains xs x → Contains ys x) → (y : ℕ) → Contains (map f xs) y → Contains (map f ys) y

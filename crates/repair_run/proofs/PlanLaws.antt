@@ -1,8 +1,8 @@
 -- What a plan says of the files, and what the files say of it.
-use Rattle.std.proofs.Common.{◌≡◌, ℕ, ◌<◌, ◌≤◌, Bool, true, false, if◌then◌else◌, List, length, Option, None, Some, inl, inr, refl, sym, ◌∙◌, ap, subst, ⊎_elim, arith}
+use Rattle.std.proofs.Common.{◌≡◌, ℕ, ◌<◌, ◌≤◌, Bool, true, false, if◌then◌else◌, List, length, Option, None, Some, inl, inr, refl, sym, ◌∙◌, ap, subst, ⊎_elim, arith, IfSome}
 use Rattle.std.specs.Prelude.{nat_le}
 use Rattle.std.proofs.lemmas.Bool.Decides.{nat_tests}
-use Rattle.io_edge.specs.Outside.{Files, IsLonger}
+use Rattle.io_edge.specs.Outside.{Files, IsLonger, FolderSeen}
 use Rattle.io_edge.specs.declared.outside.Role.{Role}
 use Rattle.repair_run.specs.declared.first_form.DocumentText.{DocumentText}
 use Rattle.repair_run.specs.declared.first_form.TableText.{TableText}
@@ -11,7 +11,7 @@ use Rattle.repair_run.specs.FirstForm.{IsDocumentText, IsTableText}
 use Rattle.repair_run.specs.Reading.{document_of, table_of}
 use Rattle.repair_run.specs.Words.{FileNames}
 use Rattle.repair_run.specs.Texts.{max_bytes, IsShort, AreShort, IsFileOf, AreRead, IsDocumentFile, IsTableFile, IsUnbuilt}
-use Rattle.repair_run.specs.Plan.{Plan, Missing, Refused, Ready, sized, formed, plan_of_texts, plan, IsPlanOf, IsLoaded, IsTextStop, IsTextsStop, IsLoadStop}
+use Rattle.repair_run.specs.Inside.Plan.{Plan, Missing, Refused, Ready, sized, formed, plan_of_texts, plan, IsPlanOf, IsLoaded, IsTextStop, IsTextsStop, IsLoadStop}
 use Rattle.repair_run.proofs.DocumentLaws.{document_sound, document_complete}
 use Rattle.repair_run.proofs.TableLaws.{table_sound, table_complete}
 
@@ -192,26 +192,34 @@ module _ (files : Files) (names : FileNames) where
   unbuilt_refused Role.Evidence h = absurd h
 
 -- how the load of three files ends
-pub is_loaded : (told : Option Files) (names : FileNames) (l r m : List ℕ) (left right : DocumentText) (table : TableText) → IsPlanOf told names l r m → plan_of_texts l r m ≡ Ready left right table → IsLoaded told names left right table
-is_loaded None names l r m left right table p e = tt
-is_loaded (Some files) names l r m left right table p e = ready_read files names left right table (p ∙ e)
+-- what a plan that is ready says of the files, if they are told
+pub is_loaded : (folder : FolderSeen) (names : FileNames) (l r m : List ℕ) (left right : DocumentText) (table : TableText)
+    → IsPlanOf folder names l r m → plan_of_texts l r m ≡ Ready left right table → IsLoaded folder names left right table
+is_loaded folder names l r m left right table = by folder.files
+  where
+    by : (told : Option Files) → IfSome told (λ files. plan files names ≡ plan_of_texts l r m) → plan_of_texts l r m ≡ Ready left right table
+        → IfSome told (λ files. AreRead files names left right table)
+    by None p e = tt
+    by (Some files) p e = ready_read files names left right table (p ∙ e)
 
-pub texts_stop : (told : Option Files) (before now : List ℕ → ℕ) (names : FileNames) (s : Status) → IsTextsStop told before now names s → IsLoadStop told before now names s
-texts_stop None before now names (Status.Unbuilt file) h = tt
-texts_stop (Some files) before now names (Status.Unbuilt file) h = refused_unbuilt files names file h
-texts_stop told before now names (Status.ReadFault file) h = h
-texts_stop told before now names Status.OutOfMemory h = tt
-texts_stop told before now names Status.Done h = absurd h
-texts_stop told before now names Status.Words h = absurd h
-texts_stop told before now names (Status.Incoherent part iri) h = absurd h
-texts_stop told before now names (Status.WriteFault target) h = absurd h
+-- a plan that refuses a file says why
+unbuilt_if_told : (told : Option Files) (names : FileNames) (file : Role) → IfSome told (λ files. plan files names ≡ Refused file) → IfSome told (λ files. IsUnbuilt files names file)
+unbuilt_if_told None names file h = tt
+unbuilt_if_told (Some files) names file h = refused_unbuilt files names file h
 
-pub text_stop : (told : Option Files) (before now : List ℕ → ℕ) (names : FileNames) (l r m : List ℕ) (s : Status) → IsPlanOf told names l r m → IsTextStop l r m s → IsLoadStop told before now names s
-text_stop None before now names l r m (Status.Unbuilt file) p h = tt
-text_stop (Some files) before now names l r m (Status.Unbuilt file) p h = refused_unbuilt files names file (p ∙ h)
-text_stop told before now names l r m Status.OutOfMemory p h = tt
-text_stop told before now names l r m (Status.ReadFault file) p h = absurd h
-text_stop told before now names l r m Status.Done p h = absurd h
-text_stop told before now names l r m Status.Words p h = absurd h
-text_stop told before now names l r m (Status.Incoherent part iri) p h = absurd h
-text_stop told before now names l r m (Status.WriteFault target) p h = absurd h
+pub texts_stop : (old new : FolderSeen) (names : FileNames) (s : Status) → IsTextsStop old new names s → IsLoadStop old new names s
+texts_stop old new names (Status.Unbuilt file) h = unbuilt_if_told old.files names file h
+texts_stop old new names (Status.ReadFault file) h = h
+texts_stop old new names Status.OutOfMemory h = tt
+texts_stop old new names _ h = absurd h
+
+-- where a text is refused, so is the plan
+refused_if_told : (told : Option Files) (names : FileNames) (l r m : List ℕ) (file : Role) → IfSome told (λ files. plan files names ≡ plan_of_texts l r m)
+    → plan_of_texts l r m ≡ Refused file → IfSome told (λ files. plan files names ≡ Refused file)
+refused_if_told None names l r m file p h = tt
+refused_if_told (Some files) names l r m file p h = p ∙ h
+
+pub text_stop : (old new : FolderSeen) (names : FileNames) (l r m : List ℕ) (s : Status) → IsPlanOf old names l r m → IsTextStop l r m s → IsLoadStop old new names s
+text_stop old new names l r m (Status.Unbuilt file) p h = unbuilt_if_told old.files names file (refused_if_told old.files names l r m file p h)
+text_stop old new names l r m Status.OutOfMemory p h = tt
+text_stop old new names l r m _ p h = absurd h

@@ -16,8 +16,9 @@ confidence_of row = row.tenths * 10 ^ 35
 abbrev pub AreMarked : List Bool → List ℕ → Type 0
 AreMarked marks rows = (row : ℕ) → IsTrue (slice_index_or marks row false) ↔ Contains rows row
 
--- documents with these class names and axioms leave no class empty, and of the rows just those are kept that stand at the
--- ranks of the repair: exactly those that are not accused of leaving a class empty; and so many rows are inert
+-- documents with these class names and axioms leave no class empty, and of the rows just those are
+-- kept that stand at the ranks of the repair: exactly those that are not accused of leaving a class
+-- empty; and so many rows are inert
 pub record IsChosen (names : List (List ℕ)) (documents : List Axiom) (table : TableText) (keep : List Bool) (inert : ℕ) : Type 0 where
   pub coherent : IsCoherent (length names) 0 documents
   pub order : List ℕ

@@ -3,10 +3,8 @@ pub mod Reading
 pub mod Status
 pub mod Words
 pub mod Texts
-pub mod Plan
 pub mod Axioms
-pub mod Stated
 pub mod Choice
-pub mod Diagnosis
 pub mod Run
 pub mod Worked
+pub mod Inside

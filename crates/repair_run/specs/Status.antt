@@ -26,7 +26,8 @@ part_text Part.Left = codes "LEFT"
 part_text Part.Right = codes "RIGHT"
 part_text Part.Both = codes "LEFT and RIGHT"
 
--- the line of a refusal; a run that is done prints its summary in place of it, and a fault of the output no line
+-- the line of a refusal; a run that is done prints its summary in place of it, and a fault of the
+-- output no line
 abbrev pub refusal_line : Status → List ℕ
 refusal_line Status.Done = []
 refusal_line Status.Words = codes "alod: usage: alod LEFT RIGHT MAP OUT\n"

@@ -1,11 +1,11 @@
 -- What a run reads, and the first file that it can't take.
-use Rattle.std.specs.Prelude.{◌⊎◌, ℕ, ◌≤◌, List, length, Option, Some, None, ⊤}
-use Rattle.io_edge.specs.Outside.{Files, IsLonger}
+use Rattle.std.specs.Prelude.{◌⊎◌, ℕ, ◌≤◌, List, length, Option, Some, None, IfSome, ⊤}
+use Rattle.io_edge.specs.Outside.{Files, FolderSeen, ReadsRose, IsLonger}
 use Rattle.io_edge.specs.declared.outside.Role.{Role}
 use Rattle.repair_run.specs.declared.first_form.DocumentText.{DocumentText}
 use Rattle.repair_run.specs.declared.first_form.TableText.{TableText}
 use Rattle.repair_run.specs.FirstForm.{IsDocumentText, IsTableText}
-use Rattle.repair_run.specs.Words.{FileNames}
+use Rattle.repair_run.specs.Words.{FileNames, name_of}
 
 -- a file is at most so long
 abbrev pub max_bytes : ℕ
@@ -22,7 +22,8 @@ IsFileOf IsForm None = ⊥
 IsFileOf IsForm (Some bytes) = (length bytes ≤ max_bytes) × IsForm bytes
 
 -- LEFT and RIGHT are these documents, and MAP is this table
-pub record AreRead (files : Files) (names : FileNames) (left right : DocumentText) (table : TableText) : Type 0 where
+pub record AreRead (files : Files) (names : FileNames)
+    (left right : DocumentText) (table : TableText) : Type 0 where
   pub left_read : IsFileOf (λ bytes. IsDocumentText bytes left) (files names.left)
   pub right_read : IsFileOf (λ bytes. IsDocumentText bytes right) (files names.right)
   pub table_read : IsFileOf (λ bytes. IsTableText bytes table) (files names.map)
@@ -40,6 +41,13 @@ IsDocumentFile file = IsFileOf (λ bytes. (document : DocumentText) × IsDocumen
 abbrev pub IsTableFile : Option (List ℕ) → Type 0
 IsTableFile file = IsFileOf (λ bytes. (table : TableText) × IsTableText bytes table) file
 
+-- this file is LEFT, RIGHT or MAP
+abbrev pub IsInput : Role → Type 0
+IsInput Role.Left = ⊤
+IsInput Role.Right = ⊤
+IsInput Role.Map = ⊤
+IsInput _ = ⊥
+
 -- the files that are read before this one were read
 abbrev pub IsReached : Files → FileNames → Role → Type 0
 IsReached files names Role.Left = ⊤
@@ -47,11 +55,18 @@ IsReached files names Role.Right = IsShort (files names.left)
 IsReached files names Role.Map = IsShort (files names.left) × IsShort (files names.right)
 IsReached files names _ = ⊥
 
+-- reading this input failed, after those before it were read
+abbrev pub IsInputFault : FolderSeen → FolderSeen → FileNames → Role → Type 0
+IsInputFault old new names file =
+    IsInput file × ReadsRose old new (name_of names file)
+    × IfSome old.files (λ files. IsReached files names file)
+
 -- all three were read
 abbrev pub AreShort : Files → FileNames → Type 0
 AreShort files names = IsShort (files names.left) × IsShort (files names.right) × IsShort (files names.map)
 
--- this file is the first that is too long; or none is, and it is the first that is not of the first form
+-- this file is the first that is too long; or none is, and it is the first that is not of the first
+-- form
 abbrev pub IsUnbuilt : Files → FileNames → Role → Type 0
 IsUnbuilt files names Role.Left =
     IsLonger (files names.left) max_bytes ⊎ (AreShort files names × ¬ (IsDocumentFile (files names.left)))

@@ -5,10 +5,10 @@ ghost use Rattle.plain_logic.specs.Plain.{NamesBelow, RowBelow, row_at};
 ghost use Rattle.plain_logic.specs.Theory.{AreCoherent};
 ghost use Rattle.repair_run.specs.Axioms.{axioms_of_both, class_names, row_axioms};
 ghost use Rattle.repair_run.specs.Choice.{confidence_of, AreMarked, IsChosen};
-ghost use Rattle.repair_run.specs.Diagnosis.{confidences_of, rows_at, IsAxiomStop, IsDiagnosisStop, IsPartStop};
+ghost use Rattle.repair_run.specs.Inside.Diagnosis.{confidences_of, rows_at, IsAxiomStop, IsDiagnosisStop, IsPartStop};
 ghost use Rattle.repair_run.specs.FirstForm.{AreOfForm, IsRowText};
 ghost use Rattle.repair_run.specs.Run.{kept_count};
-ghost use Rattle.repair_run.specs.Stated.{silent_count, stated_all, stated_by};
+ghost use Rattle.repair_run.specs.Inside.Stated.{silent_count, stated_all, stated_by};
 
 use crate::first_form::{DocumentText, RowText, TableText};
 use crate::plain::{plain_axioms, plain_row};

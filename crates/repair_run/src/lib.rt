@@ -1,4 +1,5 @@
-//! One run of the program: reads two documents and a table, and writes the table without the accused rows.
+//! One run of the program: reads two documents and a table, and writes the table without the
+//! accused rows.
 #![tactic(auto)]
 
 mod diagnosis;

@@ -1,9 +1,9 @@
 //! Reading the files of a run.
 ghost use Rattle.std.specs.Prelude.{◌≡◌, IfOk, IfErr};
-ghost use Rattle.io_edge.specs.Outside.{NeverFall};
+ghost use Rattle.io_edge.specs.Outside.{FaultsNeverFall};
 ghost use Rattle.repair_run.specs.FirstForm.{AreOfForm};
-ghost use Rattle.repair_run.specs.Words.{file_names};
-ghost use Rattle.repair_run.specs.Plan.{IsRead, IsReadStop, IsPlanOf, IsLoaded, IsTextStop, IsTextsStop, IsLoadStop, plan_of_texts, Ready};
+ghost use Rattle.repair_run.specs.Inside.Named.{named};
+ghost use Rattle.repair_run.specs.Inside.Plan.{IsRead, IsReadStop, IsPlanOf, IsLoaded, IsTextStop, IsTextsStop, IsLoadStop, plan_of_texts, Ready};
 
 use crate::documents::read_document;
 use crate::first_form::{DocumentText, TableText};
@@ -39,11 +39,10 @@ fn read_file<F: Folder>(
     name: &Text,
     file: Role,
 ) -> Result<Bytes, Status>
-    ensures files { F.files folder.new ≡ F.files folder.old }
-    ensures reads { NeverFall (F.read_faults folder.old) (F.read_faults folder.new) }
-    ensures writes { NeverFall (F.write_faults folder.old) (F.write_faults folder.new) }
-    ensures ok { IfOk result (IsRead (F.files folder.old) name.now) }
-    ensures err { IfErr result (IsReadStop (F.files folder.old) (F.read_faults folder.old name.now) (F.read_faults folder.new name.now) name.now file) }
+    ensures files { (F.seen folder.new).files ≡ (F.seen folder.old).files }
+    ensures later { FaultsNeverFall (F.seen folder.old) (F.seen folder.new) }
+    ensures ok { IfOk result (IsRead (F.seen folder.old) name.now) }
+    ensures err { IfErr result (IsReadStop (F.seen folder.old) (F.seen folder.new) name.now file) }
 {
     match folder.read(alloc, name, MAX_BYTES) {
         ReadAnswer::Whole(bytes) => Ok(bytes),
@@ -59,11 +58,12 @@ fn read_texts<F: Folder>(
     folder: &mut F,
     names: &FileNames<'_>,
 ) -> Result<Texts, Status>
-    ensures files { F.files folder.new ≡ F.files folder.old }
-    ensures reads { NeverFall (F.read_faults folder.old) (F.read_faults folder.new) }
-    ensures writes { NeverFall (F.write_faults folder.old) (F.write_faults folder.new) }
-    ensures ok { IfOk result (λ t. IsPlanOf (F.files folder.old) (file_names names.now.left.now names.now.right.now names.now.map.now names.now.out.now) t.left t.right t.map) }
-    ensures err { IfErr result (IsTextsStop (F.files folder.old) (F.read_faults folder.old) (F.read_faults folder.new) (file_names names.now.left.now names.now.right.now names.now.map.now names.now.out.now)) }
+    ensures files { (F.seen folder.new).files ≡ (F.seen folder.old).files }
+    ensures later { FaultsNeverFall (F.seen folder.old) (F.seen folder.new) }
+    ensures ok { IfOk result
+        (λ t. IsPlanOf (F.seen folder.old) (named names.now) t.left t.right t.map) }
+    ensures err { IfErr result
+        (IsTextsStop (F.seen folder.old) (F.seen folder.new) (named names.now)) }
 {
     let left = read_file(alloc, folder, names.left, Role::Left)?;
     let right = read_file(alloc, folder, names.right, Role::Right)?;
@@ -73,7 +73,8 @@ fn read_texts<F: Folder>(
 
 // Looks at the form of each text.
 fn take_texts(alloc: Global, texts: &Texts) -> Result<Loaded, Status>
-    ensures ok { IfOk result (λ l. plan_of_texts texts.now.left texts.now.right texts.now.map ≡ Ready l.left l.right l.table) }
+    ensures ok { IfOk result
+        (λ l. plan_of_texts texts.now.left texts.now.right texts.now.map ≡ Ready l.left l.right l.table) }
     ensures forms { IfOk result (λ l. AreOfForm l.left l.right l.table) }
     ensures err { IfErr result (IsTextStop texts.now.left texts.now.right texts.now.map) }
 {
@@ -95,12 +96,13 @@ pub fn load<F: Folder>(
     folder: &mut F,
     names: &FileNames<'_>,
 ) -> Result<Loaded, Status>
-    ensures files { F.files folder.new ≡ F.files folder.old }
-    ensures reads { NeverFall (F.read_faults folder.old) (F.read_faults folder.new) }
-    ensures writes { NeverFall (F.write_faults folder.old) (F.write_faults folder.new) }
-    ensures ok { IfOk result (λ l. IsLoaded (F.files folder.old) (file_names names.now.left.now names.now.right.now names.now.map.now names.now.out.now) l.left l.right l.table) }
+    ensures files { (F.seen folder.new).files ≡ (F.seen folder.old).files }
+    ensures later { FaultsNeverFall (F.seen folder.old) (F.seen folder.new) }
+    ensures ok { IfOk result
+        (λ l. IsLoaded (F.seen folder.old) (named names.now) l.left l.right l.table) }
     ensures forms { IfOk result (λ l. AreOfForm l.left l.right l.table) }
-    ensures err { IfErr result (IsLoadStop (F.files folder.old) (F.read_faults folder.old) (F.read_faults folder.new) (file_names names.now.left.now names.now.right.now names.now.map.now names.now.out.now)) }
+    ensures err { IfErr result
+        (IsLoadStop (F.seen folder.old) (F.seen folder.new) (named names.now)) }
 {
     let texts = match read_texts(alloc, folder, names) {
         Ok(texts) => texts,

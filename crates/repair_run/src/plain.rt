@@ -4,7 +4,7 @@ ghost use Rattle.plain_logic.specs.Plain.{NamesBelow, RowBelow};
 ghost use Rattle.text_names.specs.Names.{number_of, number_or_next, with_name};
 ghost use Rattle.repair_run.specs.Axioms.{axioms_in, axioms_of, full_name, iris_in, iris_of, row_axioms, with_names};
 ghost use Rattle.repair_run.specs.FirstForm.{is_name, is_iri, IsAxiomText};
-ghost use Rattle.repair_run.specs.Stated.{stated, stated_all, stated_by};
+ghost use Rattle.repair_run.specs.Inside.Stated.{stated, stated_all, stated_by};
 
 use crate::first_form::{AxiomText, Curie, DocumentText, Predicate, RowText, TableText};
 use el_logic::Side;

@@ -76,8 +76,8 @@ fn not_built(file: Role) -> &'static [u8]
 
 /// Puts the line of a refusal. Only that of `Incoherent` asks for memory.
 pub fn put_refusal<S: Sink>(alloc: Global, out: &mut S, status: &Status) -> PutAnswer
-    ensures answer { PutAnswers (S.got out.old) (S.got out.new) (S.faults out.old) (S.faults out.new) (refusal_line status.now) result }
-    ensures later { S.faults out.old ≤ S.faults out.new }
+    ensures answer { PutAnswers (S.seen out.old) (S.seen out.new) (refusal_line status.now) result }
+    ensures later { (S.seen out.old).faults ≤ (S.seen out.new).faults }
 {
     match status {
         Status::Done => out.put(alloc, b""),

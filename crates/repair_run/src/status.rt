@@ -12,15 +12,17 @@ pub enum Status {
     Done,
     /// The words do not name four files, of which OUT is none of the others.
     Words,
-    /// The ontologies leave a class without a member even without the table: the first such part, and in it the IRI
-    /// of the first such class in order of appearance. There is nothing to repair in the table.
+    /// The ontologies leave a class without a member even without the table: the first such part,
+    /// and in it the IRI of the first such class in order of appearance. There is nothing to repair
+    /// in the table.
     Incoherent { part: Part, class: Text },
     /// The device failed to read this file, or there is none.
     ReadFault { file: Role },
     /// The device failed to write this file or the summary.
     WriteFault { target: Target },
     OutOfMemory,
-    /// The file is longer than 65,536 bytes or not of the first form: what it needs is not built yet.
+    /// The file is longer than 65,536 bytes or not of the first form: what it needs is not built
+    /// yet.
     Unbuilt { file: Role },
 }
 

@@ -1,6 +1,7 @@
 //! The words of a command.
 ghost use Rattle.std.specs.Prelude.{◌≡◌, None, Some, MatchOption};
-ghost use Rattle.repair_run.specs.Words.{is_file_name, names_given, file_names};
+ghost use Rattle.repair_run.specs.Words.{is_file_name, names_given};
+ghost use Rattle.repair_run.specs.Inside.Named.{named};
 
 use text_names::Text;
 
@@ -24,7 +25,8 @@ fn is_file_name(word: &Text) -> bool
 
 /// The files that the words name: LEFT, RIGHT, MAP and OUT.
 pub fn file_names_of(words: &[Text]) -> Option<FileNames<'_>>
-    ensures { MatchOption result (names_given words.now ≡ None) (λ n. names_given words.now ≡ Some (file_names n.left.now n.right.now n.map.now n.out.now)) }
+    ensures { MatchOption result (names_given words.now ≡ None)
+        (λ names. names_given words.now ≡ Some (named names)) }
 {
     if words.len() != 4 {
         return None;

@@ -8,7 +8,7 @@ use text_names::PrefixFault;
 // What a short name stands for by a header and the table after it.
 fn expansion(alloc: Global, bytes: &[u8], short: &str) -> Result<String, Fail> {
     let head = read_head(alloc, bytes)?;
-    match head.prefixes.expand(alloc, short.as_bytes()) {
+    match head.prefixes.expand(short.as_bytes()) {
         Ok(iri) => Ok(String::from_str(alloc, iri.as_str())?),
         Err(PrefixFault::Unknown) => Ok(String::from_str(alloc, "unknown")?),
         Err(fault) => Err(fault)?,

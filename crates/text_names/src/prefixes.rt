@@ -94,7 +94,7 @@ impl PrefixMap {
 
     /// The IRI that a short name stands for: that of the prefix before its first colon, followed by
     /// what stands after this colon.
-    pub fn expand(&self, alloc: Global, short: &[u8]) -> Result<Text, PrefixFault>
+    pub fn expand(&self, short: &[u8]) -> Result<Text, PrefixFault>
         requires { IsUtf8 short.now }
         ensures ok { IfOk result (IsExpansion self.now short.now) }
         ensures fault { IfErr result (IsExpandFault self.now short.now) }
@@ -105,7 +105,7 @@ impl PrefixMap {
         let Some(iri) = self.get(prefix.as_bytes()) else {
             return Err(PrefixFault::Unknown);
         };
-        match Text::joined(alloc, iri.as_str(), rest) {
+        match Text::joined(self.alloc, iri.as_str(), rest) {
             Ok(iri) => Ok(iri),
             Err(_) => Err(PrefixFault::OutOfMemory),
         }
@@ -166,7 +166,7 @@ mod tests {
             ("ö:ü", "http://ö/ü"),
         ];
         for (short, iri) in expansions {
-            assert_eq!(rt; prefixes.expand(alloc, short.as_bytes())?.as_str(), iri);
+            assert_eq!(rt; prefixes.expand(short.as_bytes())?.as_str(), iri);
         }
         let faults = [
             ("a", PrefixFault::NoColon),
@@ -174,7 +174,7 @@ mod tests {
             ("b:x", PrefixFault::Unknown),
         ];
         for (short, fault) in faults {
-            assert_eq!(rt; prefixes.expand(alloc, short.as_bytes()).err(), Some(fault));
+            assert_eq!(rt; prefixes.expand(short.as_bytes()).err(), Some(fault));
         }
         Ok(())
     }

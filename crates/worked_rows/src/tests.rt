@@ -48,11 +48,11 @@ fn folder(
 ) -> Result<MemFolder, AllocError> {
     let mut folder = MemFolder::new(alloc);
     let left = document(alloc, b"http://l/", left)?;
-    folder.set(alloc, &text(alloc, b"LEFT")?, left.as_slice())?;
+    folder.set(&text(alloc, b"LEFT")?, left.as_slice())?;
     let right = document(alloc, b"http://r/", right)?;
-    folder.set(alloc, &text(alloc, b"RIGHT")?, right.as_slice())?;
+    folder.set(&text(alloc, b"RIGHT")?, right.as_slice())?;
     let map = table(alloc, rows)?;
-    folder.set(alloc, &text(alloc, b"MAP")?, map.as_slice())?;
+    folder.set(&text(alloc, b"MAP")?, map.as_slice())?;
     Ok(folder)
 }
 
@@ -218,7 +218,7 @@ fn refuses_what_is_not_built(rt: HostRuntime) -> Result<(), Fail> {
     ];
     for (left, is_good) in wrong {
         let mut folder = folder(alloc, b"", b"", &[])?;
-        folder.set(alloc, &text(alloc, b"LEFT")?, left)?;
+        folder.set(&text(alloc, b"LEFT")?, left)?;
         if is_good {
             let (number, _) = run(alloc, &mut folder)?;
             assert_eq!(rt; number, 0);
@@ -240,7 +240,7 @@ fn refuses_long_files(rt: HostRuntime) -> Result<(), Fail> {
     ];
     for (name, line) in names {
         let mut folder = folder(alloc, b"", b"", &[])?;
-        folder.set(alloc, &text(alloc, name)?, long.as_slice())?;
+        folder.set(&text(alloc, name)?, long.as_slice())?;
         refuses(&rt, alloc, &mut folder, 10, line)?;
     }
     Ok(())
@@ -341,7 +341,7 @@ fn joins_documents_by_their_names(rt: HostRuntime) -> Result<(), Fail> {
     for (left, right, line) in cases {
         let mut folder = folder(alloc, left, b"", &[])?;
         let right = document(alloc, b"http://l/", right)?;
-        folder.set(alloc, &text(alloc, b"RIGHT")?, right.as_slice())?;
+        folder.set(&text(alloc, b"RIGHT")?, right.as_slice())?;
         refuses(&rt, alloc, &mut folder, 5, line)?;
     }
     Ok(())
@@ -361,7 +361,7 @@ fn joins_prefixes_by_their_iris(rt: HostRuntime) -> Result<(), Fail> {
         b"",
         &[],
     )?;
-    folder.set(alloc, &text(alloc, b"MAP")?, map)?;
+    folder.set(&text(alloc, b"MAP")?, map)?;
     let (number, out) = run(alloc, &mut folder)?;
     assert_eq!(rt; number, 0);
     assert_eq!(rt;

@@ -10,8 +10,8 @@ use Rattle.std.specs.List.{list_all}
 use Rattle.plain_logic.specs.declared.axioms.PlainRow.{PlainRow}
 use Rattle.repair_run.specs.Axioms.{row_axioms}
 use Rattle.repair_run.specs.Choice.{confidence_of, AreMarked}
-use Rattle.repair_run.specs.Diagnosis.{confidences_of, rows_at}
-use Rattle.repair_run.specs.Stated.{stated_by, silent_count}
+use Rattle.repair_run.specs.Inside.Diagnosis.{confidences_of, rows_at}
+use Rattle.repair_run.specs.Inside.Stated.{stated_by, silent_count}
 use Rattle.repair_run.proofs.FamilyLaws.{same_family, same_count}
 use Rattle.repair_run.proofs.ChoiceLaws.{all_names_test, all_ranked_test, ranking_length, ranking_below, ranking_within, repair_within}
 use Rattle.repair_run.proofs.diagnosis.chosen.Goals as goal

@@ -1,6 +1,6 @@
 use Rattle.std.proofs.Common.{◌∙◌, length, subst}
 use Rattle.plain_logic.specs.Theory.{AreCoherent}
-use Rattle.repair_run.specs.Stated.{stated_all}
+use Rattle.repair_run.specs.Inside.Stated.{stated_all}
 use Rattle.repair_run.proofs.DiagnosisLaws.{stated_both, right_stop, both_stop}
 use Rattle.repair_run.proofs.diagnosis.coherent_axioms.Goals as goal
 

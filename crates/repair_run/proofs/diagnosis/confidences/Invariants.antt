@@ -1,5 +1,5 @@
 use Rattle.std.proofs.Common.{◌≡◌, take}
-use Rattle.repair_run.specs.Diagnosis.{confidences_of}
+use Rattle.repair_run.specs.Inside.Diagnosis.{confidences_of}
 use Rattle.repair_run.proofs.diagnosis.confidences.Given as goal
 
 abbrev pub invariant-loop-row : goal.invariant-loop-row

@@ -2,8 +2,8 @@ use Rattle.std.proofs.Common.{◌∙◌, ℕ, List, ◌++◌, ap, subst}
 use Rattle.el_logic.specs.declared.types.Axiom.{Axiom}
 use Rattle.repair_run.specs.Axioms.{class_names}
 use Rattle.repair_run.specs.Choice.{IsChosen}
-use Rattle.repair_run.specs.Diagnosis.{IsAxiomStop}
-use Rattle.repair_run.specs.Stated.{stated_all}
+use Rattle.repair_run.specs.Inside.Diagnosis.{IsAxiomStop}
+use Rattle.repair_run.specs.Inside.Stated.{stated_all}
 use Rattle.repair_run.proofs.DiagnosisLaws.{all_names, both_axioms, diagnosis_stop}
 use Rattle.repair_run.proofs.diagnosis.diagnose.Goals as goal
 

@@ -2,7 +2,7 @@ use Rattle.std.proofs.Common.{◌∙◌, ℕ, ◌<◌, ◌≤◌, true, length, 
 use Rattle.std.proofs.lemmas.List.{length-set, take_all}
 use Rattle.std.proofs.lemmas.List.Elements.{All-get_or}
 use Rattle.repair_run.specs.Choice.{AreMarked}
-use Rattle.repair_run.specs.Diagnosis.{rows_at}
+use Rattle.repair_run.specs.Inside.Diagnosis.{rows_at}
 use Rattle.repair_run.proofs.ChoiceLaws.{marked_more, rows_at_more}
 use Rattle.repair_run.proofs.diagnosis.marks.Goals as goal
 

@@ -1,6 +1,6 @@
 use Rattle.std.proofs.Common.{◌≡◌, length, take}
 use Rattle.repair_run.specs.Choice.{AreMarked}
-use Rattle.repair_run.specs.Diagnosis.{rows_at}
+use Rattle.repair_run.specs.Inside.Diagnosis.{rows_at}
 use Rattle.repair_run.proofs.diagnosis.marks.Given as goal
 
 abbrev pub invariant-loop-rank : goal.invariant-loop-rank

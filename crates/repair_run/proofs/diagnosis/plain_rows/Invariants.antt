@@ -1,7 +1,7 @@
 use Rattle.std.proofs.Common.{◌≡◌, All, length, map, take}
 use Rattle.plain_logic.specs.Plain.{RowBelow}
 use Rattle.repair_run.specs.Axioms.{row_axioms}
-use Rattle.repair_run.specs.Stated.{stated_by}
+use Rattle.repair_run.specs.Inside.Stated.{stated_by}
 use Rattle.repair_run.proofs.diagnosis.plain_rows.Given as goal
 
 abbrev pub invariant-loop-row : goal.invariant-loop-row

@@ -2,7 +2,7 @@ use Rattle.std.proofs.Common.{◌≡◌, ◌<◌, ◌≤◌, ℕ, List, ◌++◌
 use Rattle.std.proofs.lemmas.List.{take_all}
 use Rattle.repair_run.specs.declared.first_form.AxiomText.{AxiomText}
 use Rattle.repair_run.specs.Axioms.{axioms_of}
-use Rattle.repair_run.specs.Stated.{stated, stated_all}
+use Rattle.repair_run.specs.Inside.Stated.{stated, stated_all}
 use Rattle.repair_run.proofs.ChoiceLaws.{all_stay}
 use Rattle.repair_run.proofs.NumberLaws.{names_more, axioms_more}
 use Rattle.repair_run.proofs.plain.plain_axioms.Goals as goal

@@ -1,7 +1,7 @@
 use Rattle.std.proofs.Common.{◌≡◌, ◌≤◌, ℕ, List, ◌++◌, All, flat_map, length, take}
 use Rattle.plain_logic.specs.Plain.{NamesBelow}
 use Rattle.repair_run.specs.Axioms.{axioms_of, iris_of, with_names}
-use Rattle.repair_run.specs.Stated.{stated_all}
+use Rattle.repair_run.specs.Inside.Stated.{stated_all}
 use Rattle.repair_run.proofs.plain.plain_axioms.Given as goal
 
 abbrev pub invariant-loop-text : goal.invariant-loop-text
