@@ -14,6 +14,7 @@ use Rattle.ofn_lex.specs.Texts.{NoneLonger, BeginsNone, IsNext, IsAnswer, IsLast
 use Rattle.ofn_lex.proofs.EndLaws.{gap_found, gap_again, BeginsNoGap}
 use Rattle.ofn_lex.proofs.TokenLaws.{IsFront, IsFrontIfSome, token_is_front, first_token, Reaches, form_is_read}
 
+-- what is left after a front
 pub drop_behind : (text : List ℕ) (from : ℕ) (front rest : List ℕ) → drop from text ≡ front ++ rest → drop (from + length front) text ≡ rest
 drop_behind text from front rest e = sym (drop-drop (length front) from text) ∙ ap (drop (length front)) e ∙ drop_at front rest (length front) refl
 
@@ -24,6 +25,7 @@ longest_of at bytes own token read ends kind front others form whole =
     let far : at + length front ≤ token.end = reached.1 in
     omega arith
 
+-- what is read at a byte that begins no gap
 answer_of_token : (text : List ℕ) (from at : ℕ) (gap : List GapPart) (b : ℕ) (bs : List ℕ) (o : Option Token) → token_at at b bs ≡ o →
     drop from text ≡ gap_bytes gap ++ b ∷ bs → IsGap gap (b ∷ bs) → begins_gap b ≡ false → at ≡ from + length (gap_bytes gap) → IsAnswer text from (or_fault at o)
 answer_of_token text from at gap b bs None read whole passed stops here =
@@ -51,22 +53,25 @@ answer_of_token text from at gap b bs (Some token) read whole passed stops here 
       ends = front.ends ∙ ap (λ (n : ℕ). n + length front.own) (sym front.starts);
     }
 
+-- what is read after a gap
 answer_behind_gap : (text : List ℕ) (from at : ℕ) (gap : List GapPart) (rest : List ℕ) → drop from text ≡ gap_bytes gap ++ rest → IsGap gap rest → BeginsNoGap rest → at ≡ from + length (gap_bytes gap) → IsAnswer text from (first_of at rest)
 answer_behind_gap text from at gap [] whole passed stops here = record { gap = gap; whole = whole ∙ append-nil (gap_bytes gap); passed = passed }
 answer_behind_gap text from at gap (b ∷ bs) whole passed stops here = answer_of_token text from at gap b bs (token_at at b bs) refl whole passed stops here
 
+-- what is read is what the format has
 pub next_is_answer : (text : List ℕ) (from : ℕ) → IsAnswer text from (next_of text from)
 next_is_answer text from =
     let g = gap_found from (drop from text) in
     let tail : drop (past_gap text from) text ≡ g.rest = ap (λ (n : ℕ). drop n text) g.ends ∙ drop_behind text from (gap_bytes g.gap) g.rest g.whole in
     subst (λ (l : List ℕ). IsAnswer text from (first_of (past_gap text from) l)) (sym tail) (answer_behind_gap text from (past_gap text from) g.gap g.rest g.whole g.passed g.stops g.ends)
 
--- what is read behind a gap
+-- what is read after a gap
 next_behind_gap : (text : List ℕ) (from : ℕ) (gap : List GapPart) (rest : List ℕ) → drop from text ≡ gap_bytes gap ++ rest → IsGap gap rest → BeginsNoGap rest → next_of text from ≡ first_of (from + length (gap_bytes gap)) rest
 next_behind_gap text from gap rest whole passed stops =
     let past : past_gap text from ≡ from + length (gap_bytes gap) = ap (gap_end from) whole ∙ gap_again from gap rest passed stops in
     ap (λ (n : ℕ). first_of n (drop n text)) past ∙ ap (first_of (from + length (gap_bytes gap))) (drop_behind text from (gap_bytes gap) rest whole)
 
+-- a byte of a run begins no gap
 run_begins_no_gap : (v w : Bool) (b : ℕ) → is_white_space b ≡ v → (b == 35) ≡ w → is_run_byte b ≡ true → (v || w) ≡ false
 run_begins_no_gap true w b i j e = cc
 run_begins_no_gap false true b i j e = let same = ap is_run_byte (eqb-true b 35 j) in cc
@@ -84,12 +89,15 @@ form_begins_no_gap Carets own rest form = subst (λ (l : List ℕ). BeginsNoGap 
 form_begins_no_gap Run [] rest form = absurd (omega (arith, form.0))
 form_begins_no_gap Run (b ∷ bs) rest form = let all = form.1 in run_begins_no_gap (is_white_space b) (b == 35) b refl refl all.0
 
+-- a token, as an answer
 abbrev ok_token : Token → Result (Option Token) LexFault
 ok_token token = Ok (Some token)
 
+-- a fault, as an answer
 abbrev err_fault : LexFault → Result (Option Token) LexFault
 err_fault fault = Err fault
 
+-- tokens with the same parts are the same
 same_token : (t u : Token) → t.kind ≡ u.kind → t.start ≡ u.start → t.end ≡ u.end → t ≡ u
 same_token t u k s e = λ i. record { kind = k i; start = s i; end = e i }
 
@@ -110,12 +118,14 @@ read_is_longest at own rest (b ∷ bs) token (Some other) read whole form longes
     let end : other.end ≡ token.end = omega (arith, front.ends) in
     ap (or_fault at) read ∙ ap ok_token (same_token other token reached.0 (front.starts ∙ sym starts) end)
 
+-- with no token there, the fault is read
 stuck_is_read : (at b : ℕ) (bs : List ℕ) (fault : LexFault) (o : Option Token) → token_at at b bs ≡ o → BeginsNone (b ∷ bs) → fault.offset ≡ at → or_fault at (token_at at b bs) ≡ Err fault
 stuck_is_read at b bs fault None read none here = ap (or_fault at) read ∙ ap err_fault (λ i. record { offset = sym here i })
 stuck_is_read at b bs fault (Some token) read none here =
     let front : IsFront at (b ∷ bs) token = subst (IsFrontIfSome at (b ∷ bs)) read (token_is_front at b bs) in
     absurd (none token.kind front.own front.rest front.form front.whole)
 
+-- what the format has is what is read
 pub answer_is_next : (text : List ℕ) (from : ℕ) (answer : Result (Option Token) LexFault) → IsAnswer text from answer → next_of text from ≡ answer
 answer_is_next text from (Ok None) h = next_behind_gap text from h.gap [] (h.whole ∙ sym (append-nil (gap_bytes h.gap))) h.passed tt
 answer_is_next text from (Ok (Some token)) h =
@@ -125,25 +135,29 @@ answer_is_next text from (Err fault) h =
     next_behind_gap text from h.gap (h.byte ∷ h.rest) h.whole h.passed h.no_gap ∙
     stuck_is_read (from + length (gap_bytes h.gap)) h.byte h.rest fault (token_at (from + length (gap_bytes h.gap)) h.byte h.rest) refl h.no_token h.offset
 
--- the answer behind the last token
+-- the answer after the last token
 abbrev pub last_answer : Option LexFault → Result (Option Token) LexFault
 last_answer None = Ok None
 last_answer (Some fault) = Err fault
 
+-- the same of what comes last
 last_is_next : (text : List ℕ) (from : ℕ) (last : Option LexFault) → IsLast text from last → next_of text from ≡ last_answer last
 last_is_next text from None h = answer_is_next text from (Ok None) h
 last_is_next text from (Some fault) h = answer_is_next text from (Err fault) h
 
+-- what comes last is told by its answer
 same_last : (text : List ℕ) (from : ℕ) (x y : Option LexFault) → last_answer x ≡ last_answer y → x ≡ y
 same_last text from None None e = refl
 same_last text from None (Some g) e = cc
 same_last text from (Some f) None e = cc
 same_last text from (Some f) (Some g) e = cc
 
+-- a token is not what comes last
 not_last : (token : Token) (last : Option LexFault) → last_answer last ≡ Ok (Some token) → ⊥
 not_last token None e = cc
 not_last token (Some fault) e = cc
 
+-- a text has one list of tokens at most
 pub one_list : (text : List ℕ) (from : ℕ) (xs ys : List Token) (x y : Option LexFault) → HasTokens text from xs x → HasTokens text from ys y → (xs ≡ ys) × (x ≡ y)
 one_list text from [] [] x y h k = (refl, same_last text from x y (sym (last_is_next text from x h) ∙ last_is_next text from y k))
 one_list text from [] (t ∷ ys) x y h k = absurd (not_last t x (sym (last_is_next text from x h) ∙ answer_is_next text from (Ok (Some t)) k.0))
@@ -155,6 +169,7 @@ one_list text from (t ∷ xs) (u ∷ ys) x y h k =
     let rest = one_list text u.end xs ys x y more k.1 in
     (cc, rest.1)
 
+-- one token has one kind
 same_kind : (o : Option Token) (one other : TokenKind) (m n : ℕ) → Reaches one m o → Reaches other n o → one ≡ other
 same_kind None one other m n h k = absurd h
 same_kind (Some token) one other m n h k = sym h.0 ∙ k.0
@@ -186,13 +201,16 @@ reading_step text from (Ok (Some token)) h more =
     let rest = more token ends.0 ends.1 in
     record { tokens = token ∷ rest.tokens; last = rest.last; has = (h, rest.has) }
 
+-- so many bytes have a list of tokens
 reading_within : (most : ℕ) (text : List ℕ) (from : ℕ) → length text ≤ from + most → HasReading text from
 reading_within zero text from h = reading_step text from (next_of text from) (next_is_answer text from) (λ token past within. absurd (omega arith))
 reading_within (suc most) text from h = reading_step text from (next_of text from) (next_is_answer text from) (λ token past within. reading_within most text token.end (omega arith))
 
+-- each text has a list of tokens
 pub each_has_reading : (text : List ℕ) (from : ℕ) → HasReading text from
 each_has_reading text from = reading_within (length text) text from (omega arith)
 
+-- the first bytes of a token tell its kind
 pub kind_of_first : (one other : TokenKind) (front rest front' rest' : List ℕ) → HasForm one front → HasForm other front' → front ++ rest ≡ front' ++ rest' → one ≡ other
 kind_of_first one other front rest front' rest' form form' whole =
     same_kind (first_token 0 (front ++ rest)) one other (0 + length front) (0 + length front') (form_is_read one 0 front rest form)

@@ -13,9 +13,11 @@ use Rattle.byte_words.specs.Lists.{AllPassing}
 use Rattle.ofn_lex.specs.Bytes.{is_iri_byte, is_escaped, is_language_byte, is_run_byte}
 use Rattle.ofn_lex.specs.Forms.{HasForm, QuotedPart, plain, escaped, IsQuotedPart, quoted_bytes}
 
+-- all bytes are past ASCII
 abbrev AreHigh : List ℕ → Type 0
 AreHigh bytes = AllByRecursion (λ b. 128 ≤ b) bytes
 
+-- the bytes of a character, by their number
 high_step : (u v w : Bool) (c : ℕ) → u ≡ false →
     AreHigh (cond u (c ∷ []) (cond v ((192 + c / 64) ∷ next c ∷ []) (cond w ((224 + c / 4096) ∷ next (c / 64) ∷ next c ∷ []) ((240 + c / 262144) ∷ next (c / 4096) ∷ next (c / 64) ∷ next c ∷ []))))
 high_step true v w c e = cc
@@ -32,14 +34,17 @@ encode_is_high c high = high_step (nat_lt c 128) (nat_lt c 2048) (nat_lt c 65536
 abbrev PassesHigh : (ℕ → Bool) → Type 0
 PassesHigh passes = (b : ℕ) → 128 ≤ b → passes b ≡ true
 
+-- both lists pass
 all_append : (passes : ℕ → Bool) (xs ys : List ℕ) → AllPassing passes xs → AllPassing passes ys → AllPassing passes (xs ++ ys)
 all_append passes [] ys all more = more
 all_append passes (x ∷ xs) ys all more = (all.0, all_append passes xs ys all.1 more)
 
+-- the second list passes
 all_behind : (passes : ℕ → Bool) (xs ys : List ℕ) → AllPassing passes (xs ++ ys) → AllPassing passes ys
 all_behind passes [] ys all = all
 all_behind passes (x ∷ xs) ys all = all_behind passes xs ys all.1
 
+-- bytes past ASCII pass
 high_pass : (passes : ℕ → Bool) (bytes : List ℕ) → PassesHigh passes → AreHigh bytes → AllPassing passes bytes
 high_pass passes [] p high = tt
 high_pass passes (b ∷ bs) p high = (p b high.0, high_pass passes bs p high.1)
@@ -55,6 +60,7 @@ bytes_pass passes (c ∷ cs) p all =
     (cases_lt c 128) in
     all_append passes (encode c) (encode_utf8_all cs) own (bytes_pass passes cs p all.1)
 
+-- if the bytes of characters pass, the characters do
 characters_pass : (passes : ℕ → Bool) (cs : List ℕ) → PassesHigh passes → AllPassing passes (encode_utf8_all cs) → AllPassing passes cs
 characters_pass passes [] p all = tt
 characters_pass passes (c ∷ cs) p all =
@@ -66,27 +72,35 @@ characters_pass passes (c ∷ cs) p all =
     (cases_lt c 128) in
     (own, behind)
 
+-- every byte past ASCII may stand in an IRI
 iri_passes_high : PassesHigh is_iri_byte
 iri_passes_high b high = grind (arith, nat_tests)
 
+-- every byte past ASCII may stand in a run
 run_passes_high : PassesHigh is_run_byte
 run_passes_high b high = grind (arith, nat_tests)
 
+-- a byte of a language tag is ASCII
 language_is_ascii : (b : ℕ) → is_language_byte b ≡ true → b < 128
 language_is_ascii b e = grind (arith, nat_tests)
 
+-- an escaped byte is ASCII
 escaped_is_ascii : (b : ℕ) → is_escaped b ≡ true → b < 128
 escaped_is_ascii b e = grind (arith, nat_tests)
 
+-- a byte past ASCII is not escaped
 high_is_plain : (b : ℕ) → 128 ≤ b → is_escaped b ≡ false
 high_is_plain b high = grind (arith, nat_tests)
 
+-- an ASCII character at the front is its own byte
 ascii_first : (c : ℕ) (cs : List ℕ) → c < 128 → encode_utf8_all (c ∷ cs) ≡ c ∷ encode_utf8_all cs
 ascii_first c cs low = ap (λ (l : List ℕ). l ++ encode_utf8_all cs) (encode_ascii c low)
 
+-- an ASCII character at the end is its own byte
 ascii_last : (cs : List ℕ) (c : ℕ) → c < 128 → encode_utf8_all (cs ++ c ∷ []) ≡ encode_utf8_all cs ++ c ∷ []
 ascii_last cs c low = encodes-append cs (c ∷ []) ∙ ap (λ (l : List ℕ). encode_utf8_all cs ++ l) (ascii_first c [] low)
 
+-- a language tag has the same characters and bytes
 language_same : (cs : List ℕ) → AllPassing is_language_byte cs → encode_utf8_all cs ≡ cs
 language_same [] all = refl
 language_same (c ∷ cs) all = ascii_first c cs (language_is_ascii c all.0) ∙ ap (λ (l : List ℕ). c ∷ l) (language_same cs all.1)
@@ -97,6 +111,7 @@ record BeginsWith (b : ℕ) (bytes cs : List ℕ) : Type 0 where
   whole : cs ≡ b ∷ behind
   same : encode_utf8_all behind ≡ bytes
 
+-- characters whose bytes begin with an ASCII byte begin with it
 begins_with : (b : ℕ) (bytes cs : List ℕ) → b < 128 → encode_utf8_all cs ≡ b ∷ bytes → BeginsWith b bytes cs
 begins_with b bytes cs low e =
     let parts = cons_from_encodes cs bytes b (e ∙ ap (λ (l : List ℕ). l ++ bytes) (sym (encode_ascii b low))) in
@@ -108,12 +123,14 @@ record PartsOf (bytes : List ℕ) : Type 0 where
   all : AllByRecursion IsQuotedPart parts
   whole : bytes ≡ quoted_bytes parts
 
+-- bytes past ASCII, as parts of a quoted text
 plain_parts : (bytes : List ℕ) (more : List ℕ) → AreHigh bytes → PartsOf more → PartsOf (bytes ++ more)
 plain_parts [] more high h = h
 plain_parts (b ∷ bs) more high h =
     let r = plain_parts bs more high.1 h in
     record { parts = plain b ∷ r.parts; all = (high_is_plain b high.0, r.all); whole = ap (λ (l : List ℕ). b ∷ l) r.whole }
 
+-- the parts of a quoted text, over the bytes of characters
 parts_of_bytes : (parts : List QuotedPart) → AllByRecursion IsQuotedPart parts → PartsOf (encode_utf8_all (quoted_bytes parts))
 parts_of_bytes [] all = record { parts = []; all = tt; whole = refl }
 parts_of_bytes (plain c ∷ parts) all =
@@ -127,28 +144,34 @@ parts_of_bytes (escaped c ∷ parts) all =
     let bytes = ascii_first 92 (c ∷ quoted_bytes parts) (omega arith) ∙ ap (λ (l : List ℕ). 92 ∷ l) (ascii_first c (quoted_bytes parts) (escaped_is_ascii c all.0) ∙ ap (λ (l : List ℕ). c ∷ l) more.whole) in
     record { parts = escaped c ∷ more.parts; all = (all.0, more.all); whole = bytes }
 
+-- the bytes of a full IRI
 form_of_bytes_iri : (cs inner : List ℕ) → AllPassing is_iri_byte inner → cs ≡ 60 ∷ (inner ++ 62 ∷ []) → HasForm FullIri (encode_utf8_all cs)
 form_of_bytes_iri cs inner all e =
     (encode_utf8_all inner, bytes_pass is_iri_byte inner iri_passes_high all, ap encode_utf8_all e ∙ ascii_first 60 (inner ++ 62 ∷ []) (omega arith) ∙ ap (λ (l : List ℕ). 60 ∷ l) (ascii_last inner 62 (omega arith)))
 
+-- the bytes of a quoted text
 form_of_bytes_quoted : (cs : List ℕ) (parts : List QuotedPart) → AllByRecursion IsQuotedPart parts → cs ≡ 34 ∷ (quoted_bytes parts ++ 34 ∷ []) → HasForm Quoted (encode_utf8_all cs)
 form_of_bytes_quoted cs parts all e =
     let r = parts_of_bytes parts all in
     (r.parts, r.all, ap encode_utf8_all e ∙ ascii_first 34 (quoted_bytes parts ++ 34 ∷ []) (omega arith) ∙ ap (λ (l : List ℕ). 34 ∷ l) (ascii_last (quoted_bytes parts) 34 (omega arith) ∙ ap (λ (l : List ℕ). l ++ 34 ∷ []) r.whole))
 
+-- characters have bytes
 run_has_bytes : (cs : List ℕ) → 1 ≤ length cs → 1 ≤ length (encode_utf8_all cs)
 run_has_bytes [] h = absurd (omega arith)
 run_has_bytes (c ∷ cs) h =
     let size : 1 ≤ length (encode c) = omega (arith, length-encode c, (len_utf8_bounds c).0) in
     simp length-append (omega arith)
 
+-- bytes are of characters
 run_has_characters : (cs : List ℕ) → 1 ≤ length (encode_utf8_all cs) → 1 ≤ length cs
 run_has_characters [] h = h
 run_has_characters (c ∷ cs) h = omega arith
 
+-- one ASCII character
 one_ascii : (cs : List ℕ) (c : ℕ) → c < 128 → cs ≡ c ∷ [] → encode_utf8_all cs ≡ c ∷ []
 one_ascii cs c low e = ap encode_utf8_all e ∙ ascii_first c [] low
 
+-- characters with a form have bytes with it
 pub form_of_bytes : (kind : TokenKind) (cs : List ℕ) → HasForm kind cs → HasForm kind (encode_utf8_all cs)
 form_of_bytes Open cs form = one_ascii cs 40 (omega arith) form
 form_of_bytes Close cs form = one_ascii cs 41 (omega arith) form
@@ -166,6 +189,7 @@ record IriOf (cs : List ℕ) : Type 0 where
   all : AllPassing is_iri_byte inner
   whole : cs ≡ inner ++ 62 ∷ []
 
+-- an ASCII character in a full IRI
 iri_ascii : (c b : ℕ) (inner cs : List ℕ) → c ∷ encode_utf8_all cs ≡ b ∷ (inner ++ 62 ∷ []) → is_iri_byte b ≡ true → (encode_utf8_all cs ≡ inner ++ 62 ∷ [] → IriOf cs) → IriOf (c ∷ cs)
 iri_ascii c b inner cs e pass more =
     let first : c ≡ b = cc in
@@ -173,6 +197,7 @@ iri_ascii c b inner cs e pass more =
     let r = more behind in
     record { inner = c ∷ r.inner; all = (ap is_iri_byte first ∙ pass, r.all); whole = ap (λ (l : List ℕ). c ∷ l) r.whole }
 
+-- a character past ASCII in a full IRI
 iri_high : (c b : ℕ) (bytes inner cs : List ℕ) → 128 ≤ c → 1 ≤ length bytes → AreHigh bytes → bytes ++ encode_utf8_all cs ≡ b ∷ (inner ++ 62 ∷ []) →
     ((left : List ℕ) → AreHigh left → left ++ encode_utf8_all cs ≡ inner ++ 62 ∷ [] → IriOf cs) → IriOf (c ∷ cs)
 iri_high c b [] inner cs past some high e more = absurd (omega arith)
@@ -181,10 +206,11 @@ iri_high c b (h ∷ left) inner cs past some high e more =
     let r = more left high.1 behind in
     record { inner = c ∷ r.inner; all = (iri_passes_high c past, r.all); whole = ap (λ (l : List ℕ). c ∷ l) r.whole }
 
+-- a character has a byte
 encode_has_bytes : (c : ℕ) → 1 ≤ length (encode c)
 encode_has_bytes c = omega (arith, length-encode c, (len_utf8_bounds c).0)
 
--- from high bytes that are left of a character, and the characters behind it
+-- from high bytes that are left of a character, and the characters after it
 iri_of_characters : (inner left cs : List ℕ) → AreHigh left → left ++ encode_utf8_all cs ≡ inner ++ 62 ∷ [] → AllPassing is_iri_byte inner → IriOf cs
 iri_of_characters [] [] cs high e all =
     let r = begins_with 62 [] cs (omega arith) e in
@@ -210,6 +236,7 @@ record QuotedOf (cs : List ℕ) : Type 0 where
   all : AllByRecursion IsQuotedPart parts
   whole : cs ≡ quoted_bytes parts ++ 34 ∷ []
 
+-- an ASCII character in a quoted text
 quoted_ascii : (c b : ℕ) (bytes cs : List ℕ) → c ∷ encode_utf8_all cs ≡ b ∷ bytes → is_escaped b ≡ false → (encode_utf8_all cs ≡ bytes → QuotedOf cs) → QuotedOf (c ∷ cs)
 quoted_ascii c b bytes cs e is more =
     let first : c ≡ b = cc in
@@ -217,6 +244,7 @@ quoted_ascii c b bytes cs e is more =
     let r = more behind in
     record { parts = plain c ∷ r.parts; all = (ap is_escaped first ∙ is, r.all); whole = ap (λ (l : List ℕ). c ∷ l) r.whole }
 
+-- a character past ASCII in a quoted text
 quoted_high : (c b : ℕ) (own bytes cs : List ℕ) → 128 ≤ c → 1 ≤ length own → AreHigh own → own ++ encode_utf8_all cs ≡ b ∷ bytes → ((left : List ℕ) → AreHigh left → left ++ encode_utf8_all cs ≡ bytes → QuotedOf cs) → QuotedOf (c ∷ cs)
 quoted_high c b [] bytes cs past some high e more = absurd (omega arith)
 quoted_high c b (h ∷ left) bytes cs past some high e more =
@@ -224,6 +252,7 @@ quoted_high c b (h ∷ left) bytes cs past some high e more =
     let r = more left high.1 behind in
     record { parts = plain c ∷ r.parts; all = (high_is_plain c past, r.all); whole = ap (λ (l : List ℕ). c ∷ l) r.whole }
 
+-- a character after a backslash in a quoted text
 quoted_escape : (b : ℕ) (bytes cs : List ℕ) → is_escaped b ≡ true → encode_utf8_all cs ≡ 92 ∷ b ∷ bytes → ((ds : List ℕ) → encode_utf8_all ds ≡ bytes → QuotedOf ds) → QuotedOf cs
 quoted_escape b bytes cs is e more =
     let slash = begins_with 92 (b ∷ bytes) cs (omega arith) e in
@@ -231,6 +260,7 @@ quoted_escape b bytes cs is e more =
     let r = more byte.behind byte.same in
     record { parts = escaped b ∷ r.parts; all = (is, r.all); whole = slash.whole ∙ ap (λ (l : List ℕ). 92 ∷ l) (byte.whole ∙ ap (λ (l : List ℕ). b ∷ l) r.whole) }
 
+-- the parts of a quoted text, over characters
 quoted_of_characters : (parts : List QuotedPart) (left cs : List ℕ) → AreHigh left → left ++ encode_utf8_all cs ≡ quoted_bytes parts ++ 34 ∷ [] → AllByRecursion IsQuotedPart parts → QuotedOf cs
 quoted_of_characters [] [] cs high e all =
     let r = begins_with 34 [] cs (omega arith) e in
@@ -256,30 +286,36 @@ quoted_of_characters (escaped b ∷ parts) (h ∷ left) cs high e all =
 quoted_of_characters (escaped b ∷ parts) [] cs high e all =
     quoted_escape b (quoted_bytes parts ++ 34 ∷ []) cs all.0 e (λ ds same. quoted_of_characters parts [] ds tt same all.1)
 
+-- characters whose bytes are ASCII are these bytes
 from_ascii : (cs : List ℕ) (c : ℕ) → c < 128 → encode_utf8_all cs ≡ c ∷ [] → cs ≡ c ∷ []
 from_ascii cs c low e = encodes_same cs (c ∷ []) (e ∙ sym (ascii_first c [] low))
 
+-- the characters of a full IRI
 form_of_characters_iri : (cs inner : List ℕ) → AllPassing is_iri_byte inner → encode_utf8_all cs ≡ 60 ∷ (inner ++ 62 ∷ []) → HasForm FullIri cs
 form_of_characters_iri cs inner all e =
     let first = begins_with 60 (inner ++ 62 ∷ []) cs (omega arith) e in
     let r = iri_of_characters inner [] first.behind tt first.same all in
     (r.inner, r.all, first.whole ∙ ap (λ (l : List ℕ). 60 ∷ l) r.whole)
 
+-- the characters of a quoted text
 form_of_characters_quoted : (cs : List ℕ) (parts : List QuotedPart) → AllByRecursion IsQuotedPart parts → encode_utf8_all cs ≡ 34 ∷ (quoted_bytes parts ++ 34 ∷ []) → HasForm Quoted cs
 form_of_characters_quoted cs parts all e =
     let first = begins_with 34 (quoted_bytes parts ++ 34 ∷ []) cs (omega arith) e in
     let r = quoted_of_characters parts [] first.behind tt first.same all in
     (r.parts, r.all, first.whole ∙ ap (λ (l : List ℕ). 34 ∷ l) r.whole)
 
+-- the characters of a language tag
 form_of_characters_lang : (cs inner : List ℕ) → 1 ≤ length inner → AllPassing is_language_byte inner → encode_utf8_all cs ≡ 64 ∷ inner → HasForm Lang cs
 form_of_characters_lang cs inner some all e =
     (inner, some, all, encodes_same cs (64 ∷ inner) (e ∙ ap (λ (l : List ℕ). 64 ∷ l) (sym (language_same inner all)) ∙ sym (ascii_first 64 inner (omega arith))))
 
+-- the characters of two carets
 form_of_characters_carets : (cs : List ℕ) → encode_utf8_all cs ≡ 94 ∷ 94 ∷ [] → cs ≡ 94 ∷ 94 ∷ []
 form_of_characters_carets cs e =
     let first = begins_with 94 (94 ∷ []) cs (omega arith) e in
     first.whole ∙ ap (λ (l : List ℕ). 94 ∷ l) (from_ascii first.behind 94 (omega arith) first.same)
 
+-- characters whose bytes have a form have it
 pub form_of_characters : (kind : TokenKind) (cs : List ℕ) → HasForm kind (encode_utf8_all cs) → HasForm kind cs
 form_of_characters Open cs form = from_ascii cs 40 (omega arith) form
 form_of_characters Close cs form = from_ascii cs 41 (omega arith) form

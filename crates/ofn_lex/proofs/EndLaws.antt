@@ -31,7 +31,7 @@ pub span_reaches : (passes : ℕ → Bool) (n : ℕ) (own rest : List ℕ) → A
 span_reaches passes n [] rest all = omega arith
 span_reaches passes n (b ∷ bs) rest all = let h = span_reaches passes n bs rest all.1 in rw all.0 (omega (arith, h))
 
--- the bytes behind < go on to the > that ends at m
+-- the bytes after < go on to the > that ends at m
 pub record IsIri (n : ℕ) (bytes : List ℕ) (m : ℕ) : Type 0 where
   pub inner : List ℕ
   pub rest : List ℕ
@@ -39,6 +39,7 @@ pub record IsIri (n : ℕ) (bytes : List ℕ) (m : ℕ) : Type 0 where
   pub whole : bytes ≡ inner ++ 62 ∷ rest
   pub ends : m ≡ n + length inner + 1
 
+-- one byte of an IRI
 iri_step : (c v : Bool) (n b m : ℕ) (bs : List ℕ) → (b == 62) ≡ c → is_iri_byte b ≡ v → (iri_end (n + 1) bs ≡ Some m → IsIri (n + 1) bs m) → cond c (Some (n + 1)) (cond v (iri_end (n + 1) bs) None) ≡ Some m → IsIri n (b ∷ bs) m
 iri_step true v n b m bs c i h e =
     let ends : n + 1 ≡ m = cc in
@@ -46,10 +47,12 @@ iri_step true v n b m bs c i h e =
 iri_step false true n b m bs c i h e = let r = h e in record { inner = b ∷ r.inner; rest = r.rest; all = (i, r.all); whole = ap (λ (l : List ℕ). b ∷ l) r.whole; ends = omega (arith, r.ends) }
 iri_step false false n b m bs c i h e = cc
 
+-- an IRI that ends has its form
 pub iri_found : (n m : ℕ) (bs : List ℕ) → iri_end n bs ≡ Some m → IsIri n bs m
 iri_found n m [] e = cc
 iri_found n m (b ∷ bs) e = iri_step (b == 62) (is_iri_byte b) n b m bs refl refl (iri_found (n + 1) m bs) e
 
+-- a byte of an IRI does not end it
 no_end : (u v w : Bool) → (u && not v && not w) ≡ true → w ≡ false
 no_end true true true e = cc
 no_end true true false e = refl
@@ -58,11 +61,13 @@ no_end true false false e = refl
 no_end false v true e = cc
 no_end false v false e = refl
 
+-- the end is further on
 iri_again_step : (c v : Bool) (n m : ℕ) (o : Option ℕ) → c ≡ false → v ≡ true → o ≡ Some m → cond c (Some n) (cond v o None) ≡ Some m
 iri_again_step true v n m o c w e = cc
 iri_again_step false true n m o c w e = e
 iri_again_step false false n m o c w e = cc
 
+-- an IRI ends at its mark
 pub iri_again : (n : ℕ) (inner rest : List ℕ) → AllPassing is_iri_byte inner → iri_end n (inner ++ 62 ∷ rest) ≡ Some (n + length inner + 1)
 iri_again n [] rest all = ap Some (omega arith)
 iri_again n (b ∷ bs) rest all =
@@ -70,7 +75,7 @@ iri_again n (b ∷ bs) rest all =
     let h = iri_again (n + 1) bs rest all.1 in
     iri_again_step (b == 62) (is_iri_byte b) (n + 1) (n + length (b ∷ bs) + 1) (iri_end (n + 1) (bs ++ 62 ∷ rest)) other all.0 (h ∙ ap Some (omega arith))
 
--- the bytes behind the first " go on to the " that ends at m
+-- the bytes after the first " go on to the " that ends at m
 pub record IsQuoted (n : ℕ) (bytes : List ℕ) (m : ℕ) : Type 0 where
   pub parts : List QuotedPart
   pub rest : List ℕ
@@ -78,7 +83,7 @@ pub record IsQuoted (n : ℕ) (bytes : List ℕ) (m : ℕ) : Type 0 where
   pub whole : bytes ≡ quoted_bytes parts ++ 34 ∷ rest
   pub ends : m ≡ n + length (quoted_bytes parts) + 1
 
--- the same behind a \
+-- the same after a \
 record IsEscape (n : ℕ) (bytes : List ℕ) (m : ℕ) : Type 0 where
   byte : ℕ
   behind : List ℕ
@@ -86,10 +91,12 @@ record IsEscape (n : ℕ) (bytes : List ℕ) (m : ℕ) : Type 0 where
   whole : bytes ≡ byte ∷ behind
   quoted : IsQuoted (n + 1) behind m
 
+-- neither test passes
 neither : (u v : Bool) → u ≡ false → v ≡ false → (u || v) ≡ false
 neither true v e f = cc
 neither false v e f = f
 
+-- one byte of a quoted text
 quoted_step : (c v : Bool) (n b m : ℕ) (bs : List ℕ) → (b == 34) ≡ c → (b == 92) ≡ v → (quoted_end (n + 1) bs ≡ Some m → IsQuoted (n + 1) bs m) → (escape_end (n + 1) bs ≡ Some m → IsEscape (n + 1) bs m) → cond c (Some (n + 1)) (cond v (escape_end (n + 1) bs) (quoted_end (n + 1) bs)) ≡ Some m → IsQuoted n (b ∷ bs) m
 quoted_step true v n b m bs c i h g e =
     let ends : n + 1 ≡ m = cc in
@@ -107,24 +114,29 @@ quoted_step false false n b m bs c i h g e =
     let r = h e in
     record { parts = plain b ∷ r.parts; rest = r.rest; all = (neither (b == 34) (b == 92) c i, r.all); whole = ap (λ (l : List ℕ). b ∷ l) r.whole; ends = omega (arith, r.ends) }
 
+-- one byte after a backslash
 escape_step : (v : Bool) (n b m : ℕ) (bs : List ℕ) → is_escaped b ≡ v → (quoted_end (n + 1) bs ≡ Some m → IsQuoted (n + 1) bs m) → cond v (quoted_end (n + 1) bs) None ≡ Some m → IsEscape n (b ∷ bs) m
 escape_step true n b m bs i h e = record { byte = b; behind = bs; is = i; whole = refl; quoted = h e }
 escape_step false n b m bs i h e = cc
 
 mutual
+  -- a quoted text that ends has its form
   pub quoted_found : (n m : ℕ) (bs : List ℕ) → quoted_end n bs ≡ Some m → IsQuoted n bs m
   quoted_found n m [] e = cc
   quoted_found n m (b ∷ bs) e = quoted_step (b == 34) (b == 92) n b m bs refl refl (quoted_found (n + 1) m bs) (escape_found (n + 1) m bs) e
 
+  -- and so has what follows a backslash
   escape_found : (n m : ℕ) (bs : List ℕ) → escape_end n bs ≡ Some m → IsEscape n bs m
   escape_found n m [] e = cc
   escape_found n m (b ∷ bs) e = escape_step (is_escaped b) n b m bs refl (quoted_found (n + 1) m bs) e
 
+-- the end is further on
 quoted_again_step : (c v : Bool) (m : ℕ) (x y z : Option ℕ) → (c || v) ≡ false → z ≡ Some m → cond c x (cond v y z) ≡ Some m
 quoted_again_step true v m x y z c e = cc
 quoted_again_step false true m x y z c e = cc
 quoted_again_step false false m x y z c e = e
 
+-- a quoted text ends at its mark
 pub quoted_again : (n : ℕ) (parts : List QuotedPart) (rest : List ℕ) → AllByRecursion IsQuotedPart parts → quoted_end n (quoted_bytes parts ++ 34 ∷ rest) ≡ Some (n + length (quoted_bytes parts) + 1)
 quoted_again n [] rest all = ap Some (omega arith)
 quoted_again n (plain b ∷ parts) rest all =
@@ -148,7 +160,7 @@ pub record IsGapTo (n : ℕ) (bytes : List ℕ) (m : ℕ) : Type 0 where
   pub stops : BeginsNoGap rest
   pub ends : m ≡ n + length (gap_bytes gap)
 
--- the same behind a #
+-- the same after a #
 record IsCommentTo (n : ℕ) (bytes : List ℕ) (m : ℕ) : Type 0 where
   inner : List ℕ
   gap : List GapPart
@@ -160,6 +172,7 @@ record IsCommentTo (n : ℕ) (bytes : List ℕ) (m : ℕ) : Type 0 where
   stops : BeginsNoGap rest
   ends : m ≡ n + length inner + length (gap_bytes gap)
 
+-- one byte of a gap
 gap_step : (v c : Bool) (n b : ℕ) (bs : List ℕ) → is_white_space b ≡ v → (b == 35) ≡ c → IsGapTo (n + 1) bs (gap_end (n + 1) bs) → IsCommentTo (n + 1) bs (comment_end (n + 1) bs) → IsGapTo n (b ∷ bs) (cond v (gap_end (n + 1) bs) (cond c (comment_end (n + 1) bs) n))
 gap_step true c n b bs i j h g = record { gap = white b ∷ h.gap; rest = h.rest; whole = ap (λ (l : List ℕ). b ∷ l) h.whole; passed = (i, h.passed); stops = h.stops; ends = omega (arith, h.ends) }
 gap_step false true n b bs i j h g =
@@ -173,14 +186,17 @@ gap_step false true n b bs i j h g =
     }
 gap_step false false n b bs i j h g = record { gap = []; rest = b ∷ bs; whole = refl; passed = tt; stops = neither (is_white_space b) (b == 35) i j; ends = omega arith }
 
+-- the last test passes
 last_of : (u v w : Bool) → w ≡ true → (u || v || w) ≡ true
 last_of true v w e = refl
 last_of false true w e = refl
 last_of false false w e = e
 
+-- the end of a line is white space
 line_is_white : (b : ℕ) → ends_line b ≡ true → is_white_space b ≡ true
 line_is_white b e = last_of (b == 32) (b == 9) (ends_line b) e
 
+-- one byte of a comment
 comment_step : (v : Bool) (n b : ℕ) (bs : List ℕ) → ends_line b ≡ v → IsGapTo (n + 1) bs (gap_end (n + 1) bs) → IsCommentTo (n + 1) bs (comment_end (n + 1) bs) → IsCommentTo n (b ∷ bs) (cond v (gap_end (n + 1) bs) (comment_end (n + 1) bs))
 comment_step true n b bs i h g =
     record { inner = []; gap = white b ∷ h.gap; rest = h.rest; whole = ap (λ (l : List ℕ). b ∷ l) h.whole; all = tt; line = i; passed = (line_is_white b i, h.passed); stops = h.stops; ends = omega (arith, h.ends) }
@@ -188,14 +204,17 @@ comment_step false n b bs i h g =
     record { inner = b ∷ g.inner; gap = g.gap; rest = g.rest; whole = ap (λ (l : List ℕ). b ∷ l) g.whole; all = (i, g.all); line = g.line; passed = g.passed; stops = g.stops; ends = omega (arith, g.ends) }
 
 mutual
+  -- a gap has its form
   pub gap_found : (n : ℕ) (bs : List ℕ) → IsGapTo n bs (gap_end n bs)
   gap_found n [] = record { gap = []; rest = []; whole = refl; passed = tt; stops = tt; ends = omega arith }
   gap_found n (b ∷ bs) = gap_step (is_white_space b) (b == 35) n b bs refl refl (gap_found (n + 1) bs) (comment_found (n + 1) bs)
 
+  -- a comment has its form
   comment_found : (n : ℕ) (bs : List ℕ) → IsCommentTo n bs (comment_end n bs)
   comment_found n [] = record { inner = []; gap = []; rest = []; whole = refl; all = tt; line = tt; passed = tt; stops = tt; ends = omega arith }
   comment_found n (b ∷ bs) = comment_step (ends_line b) n b bs refl (gap_found (n + 1) bs) (comment_found (n + 1) bs)
 
+-- a comment ends with its line
 comment_again : (n : ℕ) (inner tail : List ℕ) → AllFailing ends_line inner → EndsLine tail → comment_end n (inner ++ tail) ≡ gap_end (n + length inner) tail
 comment_again n [] [] all line = omega arith
 comment_again n [] (b ∷ bs) all line =
@@ -206,11 +225,13 @@ comment_again n (b ∷ inner) tail all line =
     let here : n + 1 + length inner ≡ n + length (b ∷ inner) = omega arith in
     rw all.0 (comment_again (n + 1) inner tail all.1 line ∙ ap (λ (k : ℕ). gap_end k tail) here)
 
+-- a byte that begins no gap ends it
 stop_step : (u v : Bool) (n x y : ℕ) → (u || v) ≡ false → cond u x (cond v y n) ≡ n
 stop_step true v n x y e = cc
 stop_step false true n x y e = cc
 stop_step false false n x y e = refl
 
+-- a gap ends after its parts
 pub gap_again : (n : ℕ) (parts : List GapPart) (rest : List ℕ) → IsGap parts rest → BeginsNoGap rest → gap_end n (gap_bytes parts ++ rest) ≡ n + length (gap_bytes parts)
 gap_again n [] [] passed stops = omega arith
 gap_again n [] (b ∷ bs) passed stops = stop_step (is_white_space b) (b == 35) n (gap_end (n + 1) bs) (comment_end (n + 1) bs) stops ∙ (omega arith)

@@ -55,7 +55,7 @@ pub fn tokens_have_their_forms()
         HasTokens text from tokens last → StandInOrder tokens }
 {}
 
-/// Characters have a form, with the tests asked of their numbers, exactly where their UTF-8 has it.
+/// Characters have a form, with the tests asked of their numbers, if and only if their UTF-8 has it.
 pub fn forms_are_the_same_for_characters_and_bytes()
     ensures bytes { (kind : TokenKind) (characters : List ℕ) →
         HasForm kind characters → HasForm kind (encode_utf8_all characters) }

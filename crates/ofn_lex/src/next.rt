@@ -47,7 +47,7 @@ fn first_of(at: usize, bytes: &[u8]) -> Result<Option<Token>, LexFault>
     }
 }
 
-// The token at `at`, where the byte `first` stands before `rest`.
+// The token at `at`, with the byte `first` before `rest`.
 fn token_at(at: usize, first: u8, rest: &[u8]) -> Option<Token>
     requires { at + length rest.now + 1 < 2 ^ 63 }
     ensures token { result ≡ token_at at first rest.now }

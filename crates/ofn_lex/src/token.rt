@@ -15,11 +15,11 @@ pub enum TokenKind {
     FullIri,
     /// A text between quotation marks, in which `\"` and `\\` stand for one character each.
     Quoted,
-    /// A language tag behind its `@`.
+    /// A language tag after its `@`.
     Lang,
     /// `^^`
     Carets,
-    /// A word or, where it holds a colon, an abbreviated IRI.
+    /// A word or, if it has a colon, an abbreviated IRI.
     Run,
 }
 

@@ -1,4 +1,4 @@
--- Behind a group, the brackets are as they were before it.
+-- After a group, the brackets are as they were before it.
 use Rattle.std.proofs.Common.{◌≡◌, ℕ, zero, suc, ◌+◌, ◌-◌, ◌<◌, Bool, true, false, cond, List, [], ◌∷◌, refl, ap, subst, sym, ◌∙◌, arith}
 use Rattle.std.specs.Prelude.{Some, ◌==◌, nat_lt}
 use Rattle.std.proofs.lemmas.Bool.Decides.{nat_tests}
@@ -9,6 +9,7 @@ use Rattle.ofn_term.specs.declared.fault.TermFault.TheVariants.{Unopened, TooDee
 use Rattle.ofn_term.specs.Words.{is_open_kind, is_close_kind, is_open, is_close}
 use Rattle.ofn_term.specs.Inside.PieceReading.{first_open, bracket_fault, begins_close}
 
+-- a closing bracket does not open
 pub closing_is_not_open : (kind : TokenKind) → is_close_kind kind ≡ true → is_open_kind kind ≡ false
 closing_is_not_open Open e = sym e
 closing_is_not_open Close e = refl
@@ -32,12 +33,14 @@ pub none_is_first : (most a b : ℕ) (tokens : List Token) → bracket_fault mos
 none_is_first most a b [] = refl
 none_is_first most a b (token ∷ tokens) = at_level_none (is_open token) (is_close token) most a b token.start tokens (none_is_first most a b tokens)
 
+-- one bracket more is open
 pub open_again : (most depth first start : ℕ) (tokens : List Token) → bracket_fault most depth (first_open depth first start) tokens ≡ bracket_fault most depth first tokens
 open_again most zero first start tokens = none_is_first most start first tokens
 open_again most (suc depth) first start tokens =
     let same : first_open (suc depth) first start ≡ first = grind (arith, nat_tests) in
     ap (λ (n : ℕ). bracket_fault most (suc depth) n tokens) same
 
+-- the first fault, past a closing bracket
 pub fault_at_close : (most depth first : ℕ) (close : Token) (behind : List Token) → is_open close ≡ false → is_close close ≡ true →
     bracket_fault most (depth + 1) first (close ∷ behind) ≡ bracket_fault most depth first behind
 fault_at_close most depth first close behind o c =
@@ -45,6 +48,7 @@ fault_at_close most depth first close behind o c =
     let one_less : depth + 1 - 1 ≡ depth = omega arith in
     rw (o, c, some_open, one_less) refl
 
+-- the first fault, past an opening bracket
 pub fault_at_open : (most depth first : ℕ) (bracket : Token) (behind : List Token) → is_open bracket ≡ true → depth < most →
     bracket_fault most depth first (bracket ∷ behind) ≡ bracket_fault most (depth + 1) (first_open depth first bracket.start) behind
 fault_at_open most depth first bracket behind o l =

@@ -11,7 +11,7 @@ use Rattle.ofn_term.proofs.Closing.{fault_at_open, closing_is_not_open}
 use Rattle.ofn_term.proofs.FaultSteps.{Within, Never, opened, closed, open_is_not_closing}
 use Rattle.ofn_term.proofs.Faults.{first_kept, opened_one}
 
--- behind one more token
+-- after one more token
 tail_paired : (depth next : ℕ) (token : Token) (tokens : List Token) → depth + opened token ≡ next + closed token →
     ((front rest : List Token) → token ∷ tokens ≡ front ++ rest → closes front ≤ depth + opens front) →
     (front rest : List Token) → tokens ≡ front ++ rest → closes front ≤ next + opens front
@@ -19,6 +19,7 @@ tail_paired depth next token tokens count all front rest e =
     let h : closed token + closes front ≤ depth + (opened token + opens front) = all (token ∷ front) rest (ap (λ (ts : List Token). token ∷ ts) e) in
     omega arith
 
+-- depth stays in its bound over the rest
 tail_shallow : (most depth next : ℕ) (token : Token) (tokens : List Token) → depth + opened token ≡ next + closed token →
     ((front rest : List Token) → token ∷ tokens ≡ front ++ rest → depth + opens front ≤ closes front + most) →
     (front rest : List Token) → tokens ≡ front ++ rest → next + opens front ≤ closes front + most
@@ -26,18 +27,20 @@ tail_shallow most depth next token tokens count all front rest e =
     let h : depth + (opened token + opens front) ≤ closed token + closes front + most = all (token ∷ front) rest (ap (λ (ts : List Token). token ∷ ts) e) in
     omega arith
 
+-- the rest stays within the bounds
 tail_within : (most depth next : ℕ) (token : Token) (tokens : List Token) → depth + opened token ≡ next + closed token → Within most depth (token ∷ tokens) → Within most next tokens
 tail_within most depth next token tokens count within = record {
   paired = tail_paired depth next token tokens count within.paired;
   shallow = tail_shallow most depth next token tokens count within.shallow;
 }
 
+-- the rest leaves the bracket open
 tail_never : (depth next : ℕ) (token : Token) (tokens : List Token) → depth + opened token ≡ next + closed token → Never depth (token ∷ tokens) → Never next tokens
 tail_never depth next token tokens count never front rest e =
     let h : closed token + closes front < depth + (opened token + opens front) = never (token ∷ front) rest (ap (λ (ts : List Token). token ∷ ts) e) in
     omega arith
 
--- a token with no fault of its own, and how many brackets are open behind it
+-- a token with no fault of its own, and how many brackets are open after it
 record Passes (most depth first : ℕ) (token : Token) : Type 0 where
   next : ℕ
   first' : ℕ
@@ -45,19 +48,23 @@ record Passes (most depth first : ℕ) (token : Token) : Type 0 where
   same : (tokens : List Token) → bracket_fault most depth first (token ∷ tokens) ≡ bracket_fault most next first' tokens
   kept : 0 < depth → first' ≡ first
 
+-- the first fault, past a closing bracket that has a partner
 pub fault_at_closing : (most depth first : ℕ) (token : Token) (tokens : List Token) → is_open token ≡ false → is_close token ≡ true → 0 < depth →
     bracket_fault most depth first (token ∷ tokens) ≡ bracket_fault most (depth - 1) first tokens
 fault_at_closing most depth first token tokens o c some =
     let not_none : (depth == 0) ≡ false = grind (arith, nat_tests) in
     rw (o, c, not_none) refl
 
+-- the first fault, past another token
 fault_at_other : (most depth first : ℕ) (token : Token) (tokens : List Token) → is_open token ≡ false → is_close token ≡ false →
     bracket_fault most depth first (token ∷ tokens) ≡ bracket_fault most depth first tokens
 fault_at_other most depth first token tokens o c = rw (o, c) refl
 
+-- a test that fails counts nothing
 pub no_one : (b : Bool) → b ≡ false → let n : ℕ = cond b 1 0 in n ≡ 0
 no_one b e = ap (λ (v : Bool). let n : ℕ = cond v 1 0 in n) e
 
+-- tokens without a fault are passed over
 passes_by : (v w : Bool) (most depth first : ℕ) (token : Token) → is_open token ≡ v → is_close token ≡ w →
     closed token ≤ depth + opened token → depth + opened token ≤ closed token + most → Passes most depth first token
 passes_by true w most depth first token o c paired shallow =
@@ -109,6 +116,7 @@ record Passed (most depth first : ℕ) (front rest : List Token) : Type 0 where
   count : depth + opens front ≡ next + closes front
   same : bracket_fault most depth first (front ++ rest) ≡ bracket_fault most next first' rest
 
+-- the first fault, past a front without one
 passed : (most depth first : ℕ) (front rest : List Token) → Within most depth front → Passed most depth first front rest
 passed most depth first [] rest within = record { next = depth; first' = first; count = refl; same = refl }
 passed most depth first (token ∷ front) rest within =
@@ -119,6 +127,7 @@ passed most depth first (token ∷ front) rest within =
     let total : depth + (opened token + opens front) ≡ behind.next + (closed token + closes front) = omega arith in
     record { next = behind.next; first' = behind.first'; count = total; same = here.same (front ++ rest) ∙ behind.same }
 
+-- brackets that stay open are the fault
 never_closed : (most depth first : ℕ) (tokens : List Token) → Within most depth tokens → Never depth tokens → 0 < depth → bracket_fault most depth first tokens ≡ Some (Unclosed first)
 never_closed most depth first [] within never some =
     let not_none : (depth == 0) ≡ false = grind (arith, nat_tests) in
@@ -144,6 +153,7 @@ record ComesTo (most : ℕ) (tokens : List Token) (passes_test : Token → Bool)
   first' : ℕ
   same : bracket_fault most 0 0 tokens ≡ bracket_fault most level first' (at.bracket ∷ at.rest)
 
+-- the first fault is that of the token it comes to
 comes_to : (most : ℕ) (tokens : List Token) (test : Token → Bool) (level offset : ℕ) (at : IsBracketAt most tokens test level offset) → ComesTo most tokens test level offset at
 comes_to most tokens test level offset at =
     let by = passed most 0 0 at.front (at.bracket ∷ at.rest) (from_within most at.front at.before) in
@@ -155,6 +165,7 @@ comes_to most tokens test level offset at =
       same = ap (bracket_fault most 0 0) at.whole ∙ by.same ∙ ap (λ (n : ℕ). bracket_fault most n by.first' (at.bracket ∷ at.rest)) there;
     }
 
+-- a closing bracket without partner is the first fault
 pub unopened_found : (most : ℕ) (tokens : List Token) (offset : ℕ) → IsUnopened most tokens offset → bracket_fault most 0 0 tokens ≡ Some (Unopened offset)
 unopened_found most tokens offset at =
     let to = comes_to most tokens is_close 0 offset at in
@@ -163,6 +174,7 @@ unopened_found most tokens offset at =
     let here : bracket_fault most 0 to.first' (at.bracket ∷ at.rest) ≡ Some (Unopened at.bracket.start) = rw (other, closing) refl in
     to.same ∙ here ∙ ap (λ (n : ℕ). Some (Unopened n)) at.place
 
+-- a bracket that is too deep is the first fault
 pub too_deep_found : (most : ℕ) (tokens : List Token) (offset : ℕ) → IsTooDeep most tokens offset → bracket_fault most 0 0 tokens ≡ Some (TooDeep offset)
 too_deep_found most tokens offset at =
     let to = comes_to most tokens is_open most offset at in
@@ -171,6 +183,7 @@ too_deep_found most tokens offset at =
     let here : bracket_fault most most to.first' (at.bracket ∷ at.rest) ≡ Some (TooDeep at.bracket.start) = rw (opening, full) refl in
     to.same ∙ here ∙ ap (λ (n : ℕ). Some (TooDeep n)) at.place
 
+-- tokens in pairs have no fault
 pub none_found : (most : ℕ) (tokens : List Token) → StayWithin most tokens → opens tokens ≡ closes tokens → bracket_fault most 0 0 tokens ≡ None
 none_found most tokens within total =
     let by = passed most 0 0 tokens [] (from_within most tokens within) in
@@ -178,15 +191,17 @@ none_found most tokens within total =
     let none : by.next ≡ 0 = omega arith in
     ap (bracket_fault most 0 0) (sym (append-nil tokens)) ∙ by.same ∙ ap (λ (n : ℕ). bracket_fault most n by.first' []) none
 
--- behind the bracket that is never closed
+-- after the bracket that is never closed
 pub opens-append : (xs ys : List Token) → opens (xs ++ ys) ≡ opens xs + opens ys
 opens-append [] ys = omega arith
 opens-append (x ∷ xs) ys = let h : opens (xs ++ ys) ≡ opens xs + opens ys = opens-append xs ys in omega arith
 
+-- closing brackets of two lists
 pub closes-append : (xs ys : List Token) → closes (xs ++ ys) ≡ closes xs + closes ys
 closes-append [] ys = omega arith
 closes-append (x ∷ xs) ys = let h : closes (xs ++ ys) ≡ closes xs + closes ys = closes-append xs ys in omega arith
 
+-- what follows stays within the bounds
 behind_within : (most : ℕ) (front : List Token) (bracket : Token) (rest : List Token) → StayWithin most (front ++ bracket ∷ rest) → opens front ≡ closes front + 0 → is_open bracket ≡ true → LeaveOpen rest → Within most 1 rest
 behind_within most front bracket rest within level opening never =
     let one : opened bracket ≡ 1 = opened_one (is_open bracket) opening in
@@ -199,6 +214,7 @@ behind_within most front bracket rest within level opening never =
           omega (arith, opens-append front (bracket ∷ inner), closes-append front (bracket ∷ inner));
     }
 
+-- an opening bracket without partner is the first fault
 pub unclosed_found : (most : ℕ) (tokens : List Token) (offset : ℕ) → IsUnclosed most tokens offset → bracket_fault most 0 0 tokens ≡ Some (Unclosed offset)
 unclosed_found most tokens offset is =
     let at = is.bracket_at in

@@ -6,6 +6,7 @@ use Rattle.ofn_lex.specs.declared.token.TokenKind.TheVariants.{Open, Close, Equa
 use Rattle.ofn_term.specs.Words.{is_open_kind, is_close_kind, is_open, is_close}
 use Rattle.ofn_term.specs.Brackets.{opens, closes}
 
+-- an opening bracket does not close
 pub open_is_not_closing : (kind : TokenKind) → is_open_kind kind ≡ true → is_close_kind kind ≡ false
 open_is_not_closing Open e = refl
 open_is_not_closing Close e = sym e
@@ -36,9 +37,11 @@ pub record At (most depth : ℕ) (tokens : List Token) (passes : Token → Bool)
 abbrev pub Never : ℕ → List Token → Type 0
 Never depth tokens = (front rest : List Token) → tokens ≡ front ++ rest → closes front < depth + opens front
 
+-- equal lists have equal rests
 pub tail_of : (x y : Token) (xs ys : List Token) → x ∷ xs ≡ y ∷ ys → xs ≡ ys
 tail_of x y xs ys e = cc
 
+-- equal lists have equal first elements
 pub head_of : (x y : Token) (xs ys : List Token) → x ∷ xs ≡ y ∷ ys → x ≡ y
 head_of x y xs ys e = cc
 
@@ -46,20 +49,25 @@ head_of x y xs ys e = cc
 abbrev pub opened : Token → ℕ
 opened token = cond (is_open token) 1 0
 
+-- how many brackets a token closes
 abbrev pub closed : Token → ℕ
 closed token = cond (is_close token) 1 0
 
+-- no tokens close nothing
 pub none_paired : (depth : ℕ) (front rest : List Token) → [] ≡ front ++ rest → closes front ≤ depth + opens front
 none_paired depth [] rest e = omega arith
 none_paired depth (x ∷ front) rest e = cc
 
+-- no tokens open nothing
 pub none_shallow : (most depth : ℕ) → depth ≤ most → (front rest : List Token) → [] ≡ front ++ rest → depth + opens front ≤ closes front + most
 none_shallow most depth l [] rest e = omega arith
 none_shallow most depth l (x ∷ front) rest e = cc
 
+-- no tokens stay within the bounds
 pub none_within : (most depth : ℕ) → depth ≤ most → Within most depth []
 none_within most depth l = record { paired = none_paired depth; shallow = none_shallow most depth l }
 
+-- one more token, where no more close than are open
 pub step_paired : (depth next : ℕ) (token : Token) (tokens : List Token) → depth + opened token ≡ next + closed token →
     ((front rest : List Token) → tokens ≡ front ++ rest → closes front ≤ next + opens front) →
     (front rest : List Token) → token ∷ tokens ≡ front ++ rest → closes front ≤ depth + opens front
@@ -70,6 +78,7 @@ step_paired depth next token tokens count behind (x ∷ front) rest e =
     let here : closed token + closes front ≤ depth + (opened token + opens front) = omega arith in
     subst (λ (t : Token). closed t + closes front ≤ depth + (opened t + opens front)) same here
 
+-- one more token, where no more are open than may be
 pub step_shallow : (most depth next : ℕ) (token : Token) (tokens : List Token) → depth ≤ most → depth + opened token ≡ next + closed token →
     ((front rest : List Token) → tokens ≡ front ++ rest → next + opens front ≤ closes front + most) →
     (front rest : List Token) → token ∷ tokens ≡ front ++ rest → depth + opens front ≤ closes front + most
@@ -80,6 +89,7 @@ step_shallow most depth next token tokens l count behind (x ∷ front) rest e =
     let here : depth + (opened token + opens front) ≤ closed token + closes front + most = omega arith in
     subst (λ (t : Token). depth + (opened t + opens front) ≤ closed t + closes front + most) same here
 
+-- one more token within the bounds
 pub step_within : (most depth next : ℕ) (token : Token) (tokens : List Token) → depth ≤ most → depth + opened token ≡ next + closed token →
     Within most next tokens → Within most depth (token ∷ tokens)
 step_within most depth next token tokens l count behind = record {
@@ -87,6 +97,7 @@ step_within most depth next token tokens l count behind = record {
   shallow = step_shallow most depth next token tokens l count behind.shallow;
 }
 
+-- one more token that leaves the bracket open
 pub step_never : (depth next : ℕ) (token : Token) (tokens : List Token) → 0 < depth → depth + opened token ≡ next + closed token →
     Never next tokens → Never depth (token ∷ tokens)
 step_never depth next token tokens some count behind [] rest e = omega arith
@@ -96,6 +107,7 @@ step_never depth next token tokens some count behind (x ∷ front) rest e =
     let here : closed token + closes front < depth + (opened token + opens front) = omega arith in
     subst (λ (t : Token). closed t + closes front < depth + (opened t + opens front)) same here
 
+-- a bracket further on
 unfoldable pub step_at : (most depth next : ℕ) (token : Token) (tokens : List Token) (passes : Token → Bool) (level offset : ℕ) → depth ≤ most → depth + opened token ≡ next + closed token →
     At most next tokens passes level offset → At most depth (token ∷ tokens) passes level offset
 step_at most depth next token tokens passes level offset l count at =
@@ -112,6 +124,7 @@ step_at most depth next token tokens passes level offset l count at =
       place = at.place;
     }
 
+-- the bracket is the first token
 unfoldable pub first_at : (most depth : ℕ) (token : Token) (tokens : List Token) (passes : Token → Bool) (level offset : ℕ) → depth ≤ most → depth ≡ level → passes token ≡ true → token.start ≡ offset →
     At most depth (token ∷ tokens) passes level offset
 first_at most depth token tokens passes level offset l e test place = record {

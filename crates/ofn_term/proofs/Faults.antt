@@ -26,18 +26,21 @@ Says most depth first tokens (Some (Unclosed offset)) =
 Says most depth first tokens (Some (Lex offset)) = ⊥
 Says most depth first tokens (Some OutOfMemory) = ⊥
 
--- the bracket that is open behind one more token is the first that was open, or the token itself
+-- the bracket that is open after one more token is the first that was open, or the token itself
 record FirstIs (depth first first' : ℕ) (token : Token) : Type 0 where
   kept : 0 < depth → first' ≡ first
   new : depth ≡ 0 → is_open token ≡ true → first' ≡ token.start
 
+-- the bracket that opens is the first
 opened_is : (b : Bool) (depth next c : ℕ) → depth ≡ 0 → 0 < next → depth + cond b 1 0 ≡ next + c → b ≡ true
 opened_is true depth next c z l e = refl
 opened_is false depth next c z l e = absurd (omega arith)
 
+-- a test that passes counts one
 pub opened_one : (b : Bool) → b ≡ true → let n : ℕ = cond b 1 0 in n ≡ 1
 opened_one b e = ap (λ (v : Bool). let n : ℕ = cond v 1 0 in n) e
 
+-- a first bracket that stays open has no partner
 never_unpaired : (most depth next first first' : ℕ) (token : Token) (tokens : List Token) (offset : ℕ) → depth ≤ most → depth ≡ 0 → depth + opened token ≡ next + closed token →
     FirstIs depth first first' token → Never next tokens → 0 < next → offset ≡ first' → Unpaired most depth (token ∷ tokens) offset
 unfolding first_at
@@ -50,6 +53,7 @@ never_unpaired most depth next first first' token tokens offset l z count is nev
       never = λ front rest e. let h : closes front < next + opens front = never front rest e in omega arith;
     }
 
+-- one more token before an unclosed bracket
 unclosed_step : (most depth next first first' : ℕ) (token : Token) (tokens : List Token) (offset : ℕ) → depth ≤ most → depth + opened token ≡ next + closed token → FirstIs depth first first' token →
     (Never next tokens × (0 < next) × (offset ≡ first')) ⊎ Unpaired most next tokens offset →
     (Never depth (token ∷ tokens) × (0 < depth) × (offset ≡ first)) ⊎ Unpaired most depth (token ∷ tokens) offset
@@ -62,6 +66,7 @@ unclosed_step most (suc depth) next first first' token tokens offset l count is 
 unclosed_step most depth next first first' token tokens offset l count is (inr unpaired) =
     inr (record { at = step_at most depth next token tokens is_open 0 offset l count unpaired.at; never = unpaired.never })
 
+-- one more token before what is said
 says_step : (most depth next first first' : ℕ) (token : Token) (tokens : List Token) (found : Option TermFault) → depth ≤ most → depth + opened token ≡ next + closed token → FirstIs depth first first' token →
     Says most next first' tokens found → Says most depth first (token ∷ tokens) found
 says_step most depth next first first' token tokens None l count is says =
@@ -79,16 +84,19 @@ says_step most depth next first first' token tokens (Some OutOfMemory) l count i
 pub first_kept : (depth first start : ℕ) → 0 < depth → first_open depth first start ≡ first
 first_kept depth first start some = grind (arith, nat_tests)
 
+-- the first open bracket is a new one
 first_new : (depth first start : ℕ) → depth ≡ 0 → first_open depth first start ≡ start
 first_new depth first start none = grind (arith, nat_tests)
 
+-- a test has one answer
 not_open : (b : Bool) → b ≡ false → b ≡ true → ⊥
 not_open b e f = cc
 
--- what is said of the tokens behind
+-- what is said of the tokens after
 abbrev SaysBehind : ℕ → List Token → Type 0
 SaysBehind most tokens = (depth first : ℕ) → depth ≤ most → Says most depth first tokens (bracket_fault most depth first tokens)
 
+-- what is said at an opening bracket
 says_at_open : (b : Bool) (most depth first : ℕ) (token : Token) (tokens : List Token) → nat_lt depth most ≡ b → is_open token ≡ true → depth ≤ most → SaysBehind most tokens →
     Says most depth first (token ∷ tokens) (cond b (bracket_fault most (depth + 1) (first_open depth first token.start) tokens) (Some (TooDeep token.start)))
 says_at_open true most depth first token tokens test opening l behind =
@@ -103,6 +111,7 @@ says_at_open false most depth first token tokens test opening l behind =
     let full : depth ≡ most = grind (arith, nat_tests) in
     first_at most depth token tokens is_open most token.start l full opening refl
 
+-- what is said at a closing bracket
 says_at_close : (b : Bool) (most depth first : ℕ) (token : Token) (tokens : List Token) → (depth == 0) ≡ b → is_close token ≡ true → depth ≤ most → SaysBehind most tokens →
     Says most depth first (token ∷ tokens) (cond b (Some (Unopened token.start)) (bracket_fault most (depth - 1) first tokens))
 says_at_close true most depth first token tokens test closing l behind =
@@ -118,6 +127,7 @@ says_at_close false most depth first token tokens test closing l behind =
     (record { kept = λ k. refl; new = λ z o. absurd (not_open (is_open token) no_bracket o) })
     (behind (depth - 1) first (omega arith))
 
+-- what is said at a token
 says_at_token : (v w : Bool) (most depth first : ℕ) (token : Token) (tokens : List Token) → is_open token ≡ v → is_close token ≡ w → depth ≤ most → SaysBehind most tokens →
     Says most depth first (token ∷ tokens)
     (cond v (cond (nat_lt depth most) (bracket_fault most (depth + 1) (first_open depth first token.start) tokens) (Some (TooDeep token.start)))
@@ -133,10 +143,12 @@ says_at_token false false most depth first token tokens o c l behind =
     (record { kept = λ k. refl; new = λ z q. absurd (not_open (is_open token) o q) })
     (behind depth first l)
 
+-- no tokens leave the bracket open
 never_none : (depth : ℕ) → 0 < depth → Never depth []
 never_none depth some [] rest e = omega arith
 never_none depth some (x ∷ front) rest e = cc
 
+-- what is said at the end
 says_at_end : (b : Bool) (most depth first : ℕ) → (depth == 0) ≡ b → depth ≤ most → Says most depth first [] (cond b None (Some (Unclosed first)))
 says_at_end true most depth first test l =
     let none : depth ≡ 0 = grind (arith, nat_tests) in
@@ -146,6 +158,7 @@ says_at_end false most depth first test l =
     let some : 0 < depth = grind (arith, nat_tests) in
     (none_within most depth l, inl (never_none depth some, some, refl))
 
+-- what is said of tokens holds
 says : (most depth first : ℕ) (tokens : List Token) → depth ≤ most → Says most depth first tokens (bracket_fault most depth first tokens)
 says most depth first [] l = says_at_end (depth == 0) most depth first refl l
 says most depth first (token ∷ tokens) l =
@@ -158,6 +171,7 @@ to_within most tokens within = record {
   shallow = λ front rest e. let h : 0 + opens front ≤ closes front + most = within.shallow front rest e in omega arith;
 }
 
+-- the bracket, with none open before
 to_at : (most : ℕ) (tokens : List Token) (passes : Token → Bool) (level offset : ℕ) → At most 0 tokens passes level offset → IsBracketAt most tokens passes level offset
 to_at most tokens passes level offset at =
     let there = at.level_there in
@@ -173,6 +187,7 @@ to_at most tokens passes level offset at =
       place = at.place;
     }
 
+-- an unclosed bracket, with none open before
 to_unclosed : (most first : ℕ) (tokens : List Token) (offset : ℕ) → Within most 0 tokens →
     (Never 0 tokens × (0 < 0) × (offset ≡ first)) ⊎ Unpaired most 0 tokens offset → IsUnclosed most tokens offset
 unfolding to_at
@@ -189,6 +204,7 @@ IsFaultOf most tokens (Some (Unclosed offset)) = IsUnclosed most tokens offset
 IsFaultOf most tokens (Some (Lex offset)) = ⊥
 IsFaultOf most tokens (Some OutOfMemory) = ⊥
 
+-- what is said of all tokens
 said_of_all : (most : ℕ) (tokens : List Token) (found : Option TermFault) → Says most 0 0 tokens found → IsFaultOf most tokens found
 said_of_all most tokens None says =
     let total : 0 + opens tokens ≡ closes tokens = says.1 in
@@ -200,5 +216,6 @@ said_of_all most tokens (Some (Unclosed offset)) says = to_unclosed most 0 token
 said_of_all most tokens (Some (Lex offset)) says = says
 said_of_all most tokens (Some OutOfMemory) says = says
 
+-- the first fault of all tokens
 pub fault_said : (most : ℕ) (tokens : List Token) → IsFaultOf most tokens (bracket_fault most 0 0 tokens)
 fault_said most tokens = said_of_all most tokens (bracket_fault most 0 0 tokens) (says most 0 0 tokens (omega arith))

@@ -20,6 +20,7 @@ record Partner (depth : ℕ) (behind : List Token) : Type 0 where
   paired : (front others : List Token) → between ≡ front ++ others → closes front ≤ depth + opens front
   level : depth + opens between ≡ closes between
 
+-- one bracket more
 one_more : (depth next : ℕ) (token : Token) (tokens : List Token) → depth + opened token ≡ next + closed token → Partner next tokens → Partner depth (token ∷ tokens)
 one_more depth next token tokens count partner =
     let e : next + opens partner.between ≡ closes partner.between = partner.level in
@@ -38,6 +39,7 @@ one_more depth next token tokens count partner =
 abbrev Sought : List Token → Type 0
 Sought tokens = (depth : ℕ) → depth + opens tokens < closes tokens → Partner depth tokens
 
+-- the partner, at a closing bracket
 at_closing : (b : Bool) (depth : ℕ) (token : Token) (tokens : List Token) → (depth == 0) ≡ b → is_close token ≡ true → depth + (opened token + opens tokens) < closed token + closes tokens → Sought tokens → Partner depth (token ∷ tokens)
 at_closing true depth token tokens test closing more behind =
     let none : depth ≡ 0 = grind (arith, nat_tests) in
@@ -49,6 +51,7 @@ at_closing false depth token tokens test closing more behind =
     let count : depth + opened token ≡ depth - 1 + closed token = omega arith in
     one_more depth (depth - 1) token tokens count (behind (depth - 1) (omega arith))
 
+-- the partner, at another token
 at_token : (v w : Bool) (depth : ℕ) (token : Token) (tokens : List Token) → is_open token ≡ v → is_close token ≡ w → depth + (opened token + opens tokens) < closed token + closes tokens → Sought tokens → Partner depth (token ∷ tokens)
 at_token true w depth token tokens o c more behind =
     let one : opened token ≡ 1 = opened_one (is_open token) o in
@@ -62,10 +65,12 @@ at_token false false depth token tokens o c more behind =
     let count : depth + opened token ≡ depth + closed token = omega arith in
     one_more depth depth token tokens count (behind depth (omega arith))
 
+-- a partner is found or the brackets stay open
 sought : (tokens : List Token) → Sought tokens
 sought [] depth more = absurd (omega arith)
 sought (token ∷ tokens) depth more = at_token (is_open token) (is_close token) depth token tokens refl refl more (sought tokens)
 
+-- a bracket that does not stay open has a partner
 partner_of : (behind : List Token) → Partner 0 behind → HasPartner behind
 partner_of behind partner =
     let e : 0 + opens partner.between ≡ closes partner.between = partner.level in
@@ -80,6 +85,7 @@ partner_of behind partner =
       closed = level_here;
     }
 
+-- brackets before the unclosed one have partners
 pub earlier_have_partners : (most : ℕ) (tokens : List Token) (offset : ℕ) (is : IsUnclosed most tokens offset) (front : List Token) (bracket : Token) (behind : List Token) →
     is.bracket_at.front ≡ front ++ bracket ∷ behind → is_open bracket ≡ true → HasPartner behind
 earlier_have_partners most tokens offset is front bracket behind e opening =
@@ -91,6 +97,7 @@ earlier_have_partners most tokens offset is front bracket behind e opening =
     let closes_all : closes is.bracket_at.front ≡ closes front + (closed bracket + closes behind) = ap closes e ∙ closes-append front (bracket ∷ behind) in
     partner_of behind (sought behind 0 (omega arith))
 
+-- the unclosed one has none
 pub unclosed_has_no_partner : (most : ℕ) (tokens : List Token) (offset : ℕ) (is : IsUnclosed most tokens offset) → HasPartner is.bracket_at.rest → ⊥
 unclosed_has_no_partner most tokens offset is partner =
     let one : closed partner.bracket ≡ 1 = opened_one (is_close partner.bracket) partner.closing in

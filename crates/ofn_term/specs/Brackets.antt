@@ -41,7 +41,7 @@ IsTooDeep most tokens offset = IsBracketAt most tokens is_open most offset
 abbrev pub LeaveOpen : List Token → Type 0
 LeaveOpen tokens = (front rest : List Token) → tokens ≡ front ++ rest → closes front ≤ opens front
 
--- behind an opening bracket stands its partner, a closing one: between the two, brackets are in pairs
+-- after an opening bracket stands its partner, a closing one: between the two, brackets are in pairs
 pub record HasPartner (behind : List Token) : Type 0 where
   pub between : List Token
   pub bracket : Token

@@ -18,7 +18,7 @@ pub struct Level {
     pub first: usize,
 }
 
-// A bracket that opens a group, with the word before it that is its head, and what is behind it.
+// A bracket that opens a group, with the word before it that is its head, and what is after it.
 #[derive(Clone, Copy)]
 struct Opening<'a> {
     head: Option<Token>,
@@ -26,7 +26,7 @@ struct Opening<'a> {
     behind: &'a [Token],
 }
 
-// What a bracket and its partner have between them, where the partner ends, and what is behind it.
+// What a bracket and its partner have between them, where the partner ends, and what is after it.
 #[derive(Drop)]
 struct Group<'a> {
     items: Items,
@@ -52,7 +52,7 @@ fn first_open(level: Level, start: usize) -> usize
     level.first
 }
 
-// The bracket of the group that begins with a token, where one does.
+// The bracket of the group that begins with a token, if one does.
 fn opening_of<'a>(text: &[u8], token: Token, behind: &'a [Token]) -> Option<Opening<'a>>
     ensures none { IfNone result (is_close token ≡ false →
         pieces_of text.now (token ∷ behind.now) ≡ atom token ∷ pieces_of text.now behind.now) }

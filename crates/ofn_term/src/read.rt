@@ -68,7 +68,7 @@ mod tests {
     use std::alloc::AllocError;
     use std::test::Fail;
 
-    // Each item behind a space: an atom as START..END, a group as its head and then its own bounds
+    // Each item after a space: an atom as START..END, a group as its head and then its own bounds
     // and items in brackets.
     fn write_items(alloc: Global, out: &mut String, items: &[Item]) -> Result<(), AllocError> {
         for item in items {

@@ -24,7 +24,7 @@ fn is_run(token: Token) -> bool
     matches!(token.kind, TokenKind::Run)
 }
 
-/// The bytes of a token, or none where it does not lie within the text.
+/// The bytes of a token, or none if it does not lie within the text.
 pub fn bytes_of(text: &[u8], token: Token) -> &[u8]
     ensures { result.now ≡ bytes_of text.now token }
 {

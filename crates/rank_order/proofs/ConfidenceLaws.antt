@@ -18,6 +18,7 @@ same_value units joined places raised lowered number n e =
     ap (λ (k : ℕ). units * k) (sym (pow-add 10 places lowered)) ∙ e ∙ ap (λ (k : ℕ). joined * k) (pow-add 10 36 raised)
     ∙ ap (λ (k : ℕ). k * (10 ^ 36 * 10 ^ raised)) (sym n) ∙ omega arith
 
+-- the same, back again
 value_same : (units joined places raised lowered number : ℕ) → number ≡ joined →
     units * (10 ^ places * 10 ^ lowered) ≡ 10 ^ 36 * (number * 10 ^ raised) → units * 10 ^ (places + lowered) ≡ joined * 10 ^ (36 + raised)
 value_same units joined places raised lowered number n e =
@@ -28,6 +29,7 @@ value_same units joined places raised lowered number n e =
 abbrev pub IsScaledDecimal : Decimal → ℕ → Type 0
 IsScaledDecimal d units = AreScaledBy d.whole (fraction_digits d.fraction) (lowers d.exponent) (exponent_digits d.exponent) units
 
+-- the same of equal parts
 scaled_with : (w w' f f' : List ℕ) (l l' : Bool) (x x' : List ℕ) (units : ℕ) → w ≡ w' → f ≡ f' → l ≡ l' → x ≡ x' → AreScaledBy w f l x units → AreScaledBy w' f' l' x' units
 scaled_with w w' f f' l l' x x' units ew ef el ex h =
     subst (λ (k : List ℕ). AreScaledBy w' f' l' k units) ex
@@ -35,6 +37,7 @@ scaled_with w w' f f' l l' x x' units ew ef el ex h =
     (subst (λ (k : List ℕ). AreScaledBy w' k l x units) ef
     (subst (λ (k : List ℕ). AreScaledBy k f l x units) ew h)))
 
+-- a decimal number with these units gives a confidence
 pub confidence_from : (text : List ℕ) (d : Decimal) (units : ℕ) → decimal_of text ≡ Some d → IsScaledDecimal d units → IsConfidence text units
 confidence_from text d units e scaled =
     let read = is_read text d e in
@@ -48,6 +51,7 @@ confidence_from text d units e scaled =
       most = scaled.most;
     }
 
+-- a confidence is a decimal number with these units
 pub confidence_is : (text : List ℕ) (units : ℕ) (h : IsConfidence text units) → (decimal_of text ≡ Some h.decimal) × IsScaledDecimal h.decimal units
 confidence_is text units h =
     let d = h.decimal in
@@ -71,6 +75,7 @@ pub record IsRead (text : List ℕ) (parts : DecimalText) : Type 0 where
   pub form : IsDecimal decimal
   pub has : HasParts decimal parts
 
+-- the parts that are kept are those that were read
 pub parts_are : (text : List ℕ) (parts : DecimalText) → IsDecimalText (decimal_of text) (Some parts) → IsRead text parts
 parts_are text parts = by (decimal_of text) refl
   where
@@ -78,26 +83,32 @@ parts_are text parts = by (decimal_of text) refl
     by None e h = absurd h
     by (Some d) e h = record { decimal = d; read = e; form = (is_read text d e).0; has = h }
 
+-- an exponent has digits
 exponent_are_digits : (e : Option Exponent) → IsExponent e → AreDigits (exponent_digits e)
 exponent_are_digits None h = tt
 exponent_are_digits (Some e) h = h.1
 
 module _ (text : List ℕ) (parts : DecimalText) (r : IsRead text parts) where
+  -- there are digits before the point
   pub whole_digits : AreDigits parts.whole.now
   whole_digits = subst AreDigits (sym r.has.whole) r.form.whole
 
+  -- there are digits after the point
   pub fraction_are_digits : AreDigits parts.fraction.now
   fraction_are_digits = subst AreDigits (sym r.has.fraction) r.form.fraction
 
+  -- there are digits in the exponent
   pub exponent_are : AreDigits parts.exponent.digits.now
   exponent_are = subst AreDigits (sym r.has.digits) (exponent_are_digits r.decimal.exponent r.form.exponent)
 
+  -- units of the parts are those of the text
   pub read_from : (units : ℕ) → AreScaledBy parts.whole.now parts.fraction.now parts.exponent.lowers parts.exponent.digits.now units → IsConfidence text units
   read_from units h =
       let d = r.decimal in
       confidence_from text d units r.read
       (scaled_with parts.whole.now d.whole parts.fraction.now (fraction_digits d.fraction) parts.exponent.lowers (lowers d.exponent) parts.exponent.digits.now (exponent_digits d.exponent) units r.has.whole r.has.fraction r.has.lowers r.has.digits h)
 
+  -- without units of the parts the text has none
   pub refused_from : ((units : ℕ) → AreScaledBy parts.whole.now parts.fraction.now parts.exponent.lowers parts.exponent.digits.now units → ⊥) → (units : ℕ) → IsConfidence text units → ⊥
   refused_from none units h =
       let d = r.decimal in

@@ -15,6 +15,7 @@ use Rattle.std.proofs.lemmas.Map.Keys.{IsDistinct-from_apart, IsDistinct-IsPermu
 use Rattle.rank_order.specs.declared.order.RankKey.{RankKey}
 use Rattle.rank_order.specs.Order.{IsBefore, is_before, key_at, rank_of, IsRanking}
 
+-- a row before one that is before another
 IsBefore-trans : (a b c : RankKey) → IsBefore a b → IsBefore b c → IsBefore a c
 IsBefore-trans a b c first second =
     ⊎_elim
@@ -22,13 +23,16 @@ IsBefore-trans a b c first second =
     (λ tie. ⊎_elim (λ more. inl (omega arith)) (λ tie_too. inr (omega arith, omega arith)) second)
     first
 
+-- no two rows are before each other
 IsBefore-one_way : (a b : RankKey) → IsBefore a b → ¬ (IsBefore b a)
 IsBefore-one_way a b first second =
     ⊎_elim (λ greater. ⊎_elim (λ more. omega arith) (λ tie. omega arith) second) (λ tie. ⊎_elim (λ more. omega arith) (λ tie_too. omega arith) second) first
 
+-- a row that is before passes the test
 is_before_yes : (a b : RankKey) → IsBefore a b → is_before a b ≡ true
 is_before_yes a b before = grind (arith, nat_tests)
 
+-- a row that is not before fails it
 is_before_no : (a b : RankKey) → ¬ (IsBefore a b) → is_before a b ≡ false
 is_before_no a b not_before = grind (arith, nat_tests)
 
@@ -45,6 +49,7 @@ count_by_front test (x ∷ xs) (suc front) within passes fails =
     ∙ omega (arith, count_by_front test xs front (omega arith) (λ k low. passes (suc k) (omega arith)) (λ k low high. fails (suc k) (omega arith) (omega arith)))
 
 module _ (confidences rows : List ℕ) (ranking : IsRanking confidences rows) where
+  -- each row is before all that follow
   far_before : (i j : ℕ) → i < j → j < length rows → IsBefore (key_at confidences (slice_index rows i)) (key_at confidences (slice_index rows j))
   far_before i zero low within = absurd (omega arith)
   far_before i (suc j) low within =
@@ -54,6 +59,7 @@ module _ (confidences rows : List ℕ) (ranking : IsRanking confidences rows) wh
       (λ late. let same : j ≡ i = omega arith in subst (λ k. IsBefore (key_at confidences (slice_index rows k)) (key_at confidences (slice_index rows (suc j)))) same next)
       (cases_lt i j)
 
+  -- the row at a place has that rank
   pub rank_of_place : (place : ℕ) → place < length rows → rank_of confidences (slice_index rows place) ≡ place
   rank_of_place place within =
       let key = key_at confidences (slice_index rows place) in
@@ -68,6 +74,7 @@ module _ (confidences rows : List ℕ) (ranking : IsRanking confidences rows) wh
       IsBefore-one_way key key own own)
       (cases_lt place k)))
 
+  -- a row stands at its rank
   pub row_of_rank : (row : ℕ) → row < length confidences → slice_index rows (rank_of confidences row) ≡ row
   row_of_rank row within =
       let numbers = range_with_len 0 (length confidences) in
@@ -93,7 +100,7 @@ module _ (confidences rows : List ℕ) (ranking : IsRanking confidences rows) wh
   pub ranked_once : (one other : ℕ) → one < length rows → other < length rows → slice_index rows one ≡ slice_index rows other → one ≡ other
   ranked_once one other first second same = sym (rank_of_place one first) ∙ ap (rank_of confidences) same ∙ rank_of_place other second
 
--- a row comes before another or behind it
+-- a row comes before another or after it
 one_before : (a b : RankKey) → a.row ≢ b.row → is_before b a ≡ false → IsBefore a b
 one_before a b differ not_before = ⊎_elim inl
     (λ le. ⊎_elim
@@ -106,18 +113,23 @@ one_before a b differ not_before = ⊎_elim inl
     (cases_lt a.confidence b.confidence))
     (cases_lt b.confidence a.confidence)
 
+-- the test goes one way
 before_one_way : (a b : RankKey) → is_before a b ≡ true → is_before b a ≡ false
 before_one_way a b before = grind (arith, nat_tests)
 
+-- the test goes along a chain
 before_chain : (a b c : RankKey) → is_before a b ≡ false → is_before b c ≡ false → is_before a c ≡ false
 before_chain a b c first second = grind (arith, nat_tests)
 
+-- the test is an order
 pub in_one_order : IsStrictWeakOrder is_before
 in_one_order = record { one_way = before_one_way; chain = before_chain }
 
+-- equality goes both ways
 nat_eq-flips : (a b : ℕ) → nat_eq a b ≡ nat_eq b a
 nat_eq-flips a b = ⊎_elim (λ same. grind (arith, nat_tests)) (λ differs. grind (arith, nat_tests)) (cases_eq a b)
 
+-- row numbers are distinct
 numbers_differ : (count : ℕ) → IsDistinct nat_eq (range_with_len 0 count)
 numbers_differ count = IsDistinct-from_apart nat_eq (range_with_len 0 count)
     (λ i j d low inside.
@@ -125,32 +137,39 @@ numbers_differ count = IsDistinct-from_apart nat_eq (range_with_len 0 count)
     ne_eqb (get_or (range_with_len 0 count) i d) (get_or (range_with_len 0 count) j d)
     (λ same. omega (arith, get_or-range_with_len 0 count i d (omega arith), get_or-range_with_len 0 count j d within)))
 
+-- the rows of the keys of all rows
 rows_of_keys : (confidences numbers : List ℕ) → map (λ (key : RankKey). key.row) (map (key_at confidences) numbers) ≡ numbers
 rows_of_keys confidences [] = refl
 rows_of_keys confidences (n ∷ ns) = ap (λ (l : List ℕ). n ∷ l) (rows_of_keys confidences ns)
 
 -- keys of all rows that are sorted by that test rank the rows
 module _ (confidences : List ℕ) (keys : List RankKey) (each_once : IsPermutation (map (key_at confidences) (range_with_len 0 (length confidences))) keys) (sorted : IsSortedBy is_before keys) where
+  -- the key is that of its own row
   abbrev IsOwn : RankKey → Type 0
   IsOwn key = key_at confidences key.row ≡ key
 
+  -- all row numbers
   abbrev numbers : List ℕ
   numbers = range_with_len 0 (length confidences)
 
   own : All IsOwn keys
   own = All-permutation IsOwn (map (key_at confidences) numbers) keys each_once (All-map IsOwn (key_at confidences) numbers (All-from_get_or (λ row. IsOwn (key_at confidences row)) numbers 0 (λ i within. refl)))
 
+  -- the sorted rows are all rows
   rows_once : IsPermutation numbers (map (λ (key : RankKey). key.row) keys)
   rows_once =
       subst (λ (ns : List ℕ). IsPermutation ns (map (λ (key : RankKey). key.row) keys)) (rows_of_keys confidences numbers)
       (IsPermutation-map (λ (key : RankKey). key.row) (map (key_at confidences) numbers) keys each_once)
 
+  -- a key for places past the end
   abbrev none : RankKey
   none = key_at confidences 0
 
+  -- the key of the row at a place
   key_is : (k : ℕ) → k < length keys → key_at confidences (slice_index (map (λ (key : RankKey). key.row) keys) k) ≡ get_or keys k none
   key_is k within = ap (key_at confidences) (get_or-map (λ (key : RankKey). key.row) keys k none 0 within) ∙ All-get_or IsOwn keys k none within own
 
+  -- sorted keys give a ranking
   pub ranking_from_sort : IsRanking confidences (map (λ (key : RankKey). key.row) keys)
   ranking_from_sort = record {
     each_once = rows_once;

@@ -8,6 +8,7 @@ use Rattle.std.specs.Prelude.{Option, Some, None, SomeIff, IfSome, IfNone}
 use Rattle.rank_order.specs.Decimal.{AreDigits, is_digit, digits_value}
 use Rattle.rank_order.specs.Inside.Scale.{IsScaled, IsTooFine, up_by, down_by}
 
+-- a power of ten is not 0
 pub ten_pos : (k : ℕ) → 1 ≤ 10 ^ k
 ten_pos k = one-le-pow k 10 (omega arith)
 
@@ -23,6 +24,7 @@ digits_value-append (x ∷ xs) ys =
 ten_split : (i j : ℕ) → i ≤ j → 10 ^ j ≡ 10 ^ (j - i) * 10 ^ i
 ten_split i j le = let sum : j ≡ (j - i) + i = omega arith in ap (λ (k : ℕ). 10 ^ k) sum ∙ pow-add 10 (j - i) i
 
+-- one more power of ten
 ten_more : (i j : ℕ) → i < j → 10 ^ j ≡ 10 ^ (j - i - 1) * 10 * 10 ^ i
 ten_more i j lt =
     let sum : j ≡ suc (j - i - 1) + i = omega arith in
@@ -42,6 +44,7 @@ number_is p units up down lt e =
     let product : p * 10 ^ up ≡ units * 10 ^ (down - up - 1) * 10 * 10 ^ up = sym e ∙ ap (λ (k : ℕ). units * k) split ∙ grind arith in
     eq_of_mul-eq-mul_right (10 ^ up) (ten_pos up) p (units * 10 ^ (down - up - 1) * 10) product
 
+-- a greater power is no less
 no_less : (p k : ℕ) → p ≤ p * 10 ^ k
 no_less p k = let h = mul-le-mul_left p (ten_pos k) in omega (arith, h)
 
@@ -52,6 +55,7 @@ fine_if_long p last long up down units scaled = ⊎_elim
     (λ (ge : down ≤ up). let e = units_are p units up down ge scaled.same in omega (arith, e, no_less p (up - down), scaled.most))
     (cases_lt up down)
 
+-- a number that is too fine has many digits
 fine_is_long : (p : ℕ) → IsTooFine p → 10 ^ 36 < p
 fine_is_long p fine = ⊎_elim (λ (long : 10 ^ 36 < p). long) (λ (short : p ≤ 10 ^ 36). absurd (fine 0 0 p (record { same = refl; most = short }))) (cases_lt (10 ^ 36) p)
 
@@ -65,15 +69,19 @@ fine_more p d small fine up down units scaled = ⊎_elim
     (λ (ge : down ≤ up). let e = units_are (10 * p + d) units up down ge scaled.same in omega (arith, e, no_less (10 * p + d) (up - down), scaled.most, fine_is_long p fine))
     (cases_lt up down)
 
+-- a digit is below ten
 pub digit_below : (d : ℕ) → is_digit d ≡ true → d - 48 < 10
 digit_below d e = grind (arith, nat_tests)
 
+-- a digit before others
 in_front : (p d n q r : ℕ) → r ≡ q * 10 → (10 * p + d) * q + n ≡ p * r + (d * q + n)
 in_front p d n q r e = let h : p * r ≡ p * (q * 10) = ap (λ (k : ℕ). p * k) e in omega (arith, h)
 
+-- one more digit
 more_digits : (p d n : ℕ) (ds : List ℕ) → (10 * p + (d - 48)) * 10 ^ length ds + n ≡ p * 10 ^ length (d ∷ ds) + ((d - 48) * 10 ^ length ds + n)
 more_digits p d n ds = in_front p (d - 48) n (10 ^ length ds) (10 ^ length (d ∷ ds)) (pow-suc 10 (length ds))
 
+-- digits that are too fine stay so
 pub fine_digits : (p : ℕ) (ds : List ℕ) → AreDigits ds → IsTooFine p → IsTooFine (p * 10 ^ length ds + digits_value ds)
 fine_digits p [] digits fine = let e : p ≡ p * 10 ^ 0 + 0 = omega arith in subst IsTooFine e fine
 fine_digits p (d ∷ ds) digits fine =
@@ -85,22 +93,27 @@ large n z some many le =
     let power : 10 ^ 37 ≤ 10 ^ z = pow-le-pow_right {n = 10} (omega arith) {i = 37} {j = z} (omega arith) in
     omega (arith, power, mul-le-mul_right (10 ^ z) some)
 
+-- few zeros
 pub few_zeros : (z : ℕ) → z ≤ 36 → 10 ^ z < 2 ^ 128
 few_zeros z few = let power : 10 ^ z ≤ 10 ^ 36 = pow-le-pow_right {n = 10} (omega arith) {i = z} {j = 36} few in omega (arith, power)
 
--- a digit behind zeros
+-- a digit after zeros
 pub zero_behind : (m z : ℕ) → m * 10 ^ (z + 1) ≡ 10 * (m * 10 ^ z)
 zero_behind m z = let sum : z + 1 ≡ suc z = omega arith in ap (λ (k : ℕ). m * 10 ^ k) sum ∙ ap (λ (k : ℕ). m * k) (pow-suc 10 z) ∙ grind arith
 
+-- a digit after others
 pub digit_behind : (p d : ℕ) → 1 ≤ d → d < 10 → (10 * p + d) % 10 ≢ 0
 digit_behind p d some small e = omega (arith, e)
 
+-- a number that is too long for units
 pub too_long : (m z d : ℕ) → 1 ≤ d → d < 10 → 10 ^ 36 < m * 10 ^ (z + 1) + d → IsTooFine (10 * (m * 10 ^ z) + d)
 too_long m z d some small long = fine_if_long (10 * (m * 10 ^ z) + d) (digit_behind (m * 10 ^ z) d some small) (omega (arith, zero_behind m z, long))
 
+-- a number below a power of ten
 pub below : (a b : ℕ) → ¬ (a ≤ b) → b < a
 below a b not_le = ⊎_elim (λ (lt : b < a). lt) (λ (le : a ≤ b). absurd (not_le le)) (cases_lt b a)
 
+-- powers on both sides
 with_both : (m z up : ℕ) → m * 10 ^ (z + up) ≡ m * 10 ^ z * 10 ^ up
 with_both m z up = ap (λ (k : ℕ). m * k) (pow-add 10 z up) ∙ omega arith
 
@@ -110,15 +123,18 @@ scaled_none m z up down units last lt scaled =
     let e = number_is m units (z + up) down lt (scaled.same ∙ sym (with_both m z up)) in
     last (ap (λ (k : ℕ). k % 10) e ∙ omega arith)
 
+-- units that are found
 pub scaled_found : (m z up down units : ℕ) → down ≤ z + up → units ≤ 10 ^ 36 → units ≡ m * 10 ^ (z + up - down) → IsScaled (m * 10 ^ z) up down units
 scaled_found m z up down units le most e =
     let split : m * 10 ^ (z + up) ≡ m * (10 ^ (z + up - down) * 10 ^ down) = ap (λ (k : ℕ). m * k) (ten_split down (z + up) le) in
     let whole : units * 10 ^ down ≡ m * 10 ^ (z + up - down) * 10 ^ down = ap (λ (k : ℕ). k * 10 ^ down) e in
     record { same = whole ∙ omega arith ∙ sym split ∙ with_both m z up; most = most }
 
+-- units that are the number, scaled
 pub scaled_is : (m z up down units : ℕ) → down ≤ z + up → IsScaled (m * 10 ^ z) up down units → units ≡ m * 10 ^ (z + up - down)
 scaled_is m z up down units le scaled = units_are m units (z + up) down le (scaled.same ∙ sym (with_both m z up))
 
+-- units by the zeros of a number
 pub scaled_by_zeros : (m z up down k : ℕ) (r : Option ℕ) → down ≤ z + up → k ≡ z + up - down → SomeIff r (m * 10 ^ k ≤ 10 ^ 36) (m * 10 ^ k) →
     IfSome r (IsScaled (m * 10 ^ z) up down) × IfNone r ((units : ℕ) → IsScaled (m * 10 ^ z) up down units → ⊥)
 scaled_by_zeros m z up down k r le e h = by r (subst (λ (i : ℕ). SomeIff r (m * 10 ^ i ≤ 10 ^ 36) (m * 10 ^ i)) e h)
@@ -128,10 +144,11 @@ scaled_by_zeros m z up down k r le e h = by r (subst (λ (i : ℕ). SomeIff r (m
     by None not_most = (tt, λ units scaled. not_most (subst (λ (k : ℕ). k ≤ 10 ^ 36) (scaled_is m z up down units le scaled) scaled.most))
     by (Some n) both = (scaled_found m z up down n le (subst (λ (k : ℕ). k ≤ 10 ^ 36) (sym both.1) both.0) both.1, tt)
 
--- the digit at a place, and those behind it
+-- the digit at a place, and those after it
 front_of : (i : ℕ) (ds : List ℕ) → i < length ds → drop i ds ≡ get_or ds i 0 ∷ drop (i + 1) ds
 front_of i ds l = rw (add-one, drop-cons ds i 0) refl
 
+-- one more digit of a number
 pub digits_step : (p more whole i : ℕ) (ds : List ℕ) → i < length ds → more ≡ 10 * p + (get_or ds i 0 - 48) →
     p * 10 ^ length (drop i ds) + digits_value (drop i ds) ≡ whole → more * 10 ^ length (drop (i + 1) ds) + digits_value (drop (i + 1) ds) ≡ whole
 digits_step p more whole i ds l e same =
@@ -141,9 +158,11 @@ digits_step p more whole i ds l e same =
     ∙ ap (λ (l : List ℕ). p * 10 ^ length l + digits_value l) (sym (front_of i ds l))
     ∙ same
 
+-- the digits up to a place
 pub digits_at : (i : ℕ) (ds : List ℕ) → i < length ds → AreDigits (drop i ds) → (is_digit (get_or ds i 0) ≡ true) × AreDigits (drop (i + 1) ds)
 digits_at i ds l digits = subst AreDigits (front_of i ds l) digits
 
+-- one more digit of a number that is too fine
 pub fine_step : (p whole i : ℕ) (ds : List ℕ) → i < length ds → AreDigits (drop i ds) →
     p * 10 ^ length (drop i ds) + digits_value (drop i ds) ≡ whole → IsTooFine (10 * p + (get_or ds i 0 - 48)) → IsTooFine whole
 fine_step p whole i ds l digits same fine =
@@ -165,6 +184,7 @@ scaled_far m z up down units some far scaled =
 pub scaled_nothing : (m z up down : ℕ) → m ≡ 0 → IsScaled (m * 10 ^ z) up down 0
 scaled_nothing m z up down e = record { same = let h : m * 10 ^ z * 10 ^ up ≡ 0 = ap (λ (k : ℕ). k * 10 ^ z * 10 ^ up) e ∙ omega arith in omega (arith, h); most = omega arith }
 
+-- a number has at least its first digits
 at_least : (n : ℕ) → ¬ (n < 10 ^ 20) → 10 ^ 20 ≤ n
 at_least n not_small = ⊎_elim (λ (lt : n < 10 ^ 20). absurd (not_small lt)) (λ (le : 10 ^ 20 ≤ n). le) (cases_lt n (10 ^ 20))
 

@@ -3,7 +3,7 @@ use Rattle.std.specs.Prelude.{ℕ, Bool, true, false, ◌&&◌, ◌==◌, if◌t
 use Rattle.std.specs.List.{list_all}
 use Rattle.rank_order.specs.Decimal.{is_digit, is_exponent_letter, Sign, Exponent, Decimal, fraction_digits}
 
--- the longest front of digits, and what stands behind it
+-- the longest front of digits, and what stands after it
 abbrev pub front_digits : List ℕ → List ℕ
 front_digits [] = []
 front_digits (b ∷ bs) = if is_digit b then b ∷ front_digits bs else []
@@ -12,7 +12,7 @@ abbrev pub past_digits : List ℕ → List ℕ
 past_digits [] = []
 past_digits (b ∷ bs) = if is_digit b then past_digits bs else b ∷ bs
 
--- the digits behind a point, where one comes first, and what stands behind them
+-- the digits after a point, where one comes first, and what stands after them
 abbrev pub fraction_in : List ℕ → Option (List ℕ)
 fraction_in [] = None
 fraction_in (b ∷ bs) = if b == 46 then Some (front_digits bs) else None

@@ -36,7 +36,7 @@ impl Confidence {
     }
 
     /// The confidence that a text stands for: digits, perhaps with a point among them or at an end,
-    /// and perhaps an exponent, as `0.85`, `.5`, `1.` or `5e-1`. None where the text has another
+    /// and perhaps an exponent, as `0.85`, `.5`, `1.` or `5e-1`. None if the text has another
     /// form, or its value is above 1 or no whole number of units, of which 10^36 are 1.
     pub fn read(text: &[u8]) -> Option<Confidence>
         ensures read { IfSome result (IsConfidence text.now) }
@@ -66,7 +66,7 @@ impl Confidence {
     }
 }
 
-// The units of a number with these digits before the point, behind it and in its exponent.
+// The units of a number with these digits before the point, after it and in its exponent.
 fn units_of(whole: &[u8], fraction: &[u8], lowers: bool, exponent: &[u8]) -> Option<u128>
     requires whole { AreDigits whole.now }
     requires fraction { AreDigits fraction.now }
@@ -100,7 +100,7 @@ fn digits_of(whole: &[u8], fraction: &[u8]) -> Option<Number>
     }
 }
 
-// The units of a number of which so many digits stand behind the point.
+// The units of a number with this number of digits after the point.
 fn by_exponent(number: Number, places: usize, lowers: bool, exponent: &[u8]) -> Option<u128>
     requires short { IsShort number }
     requires zeros { number.zeros < 2 ^ 64 }

@@ -54,7 +54,7 @@ pub fn equal_confidence_goes_by_row()
     ensures { (a b : RankKey) → a.confidence ≡ b.confidence → IsBefore a b ↔ (a.row < b.row) }
 {}
 
-/// The test by which ranks are counted answers yes exactly where the row stands before the other.
+/// The test by which ranks are counted answers yes if and only if the row stands before the other.
 pub fn before_is_tested()
     ensures { (a b : RankKey) → IsTrue (is_before a b) ↔ IsBefore a b }
 {}

@@ -68,7 +68,7 @@ fn reads_what_is_a_whole_number_of_units(rt: HostRuntime) -> Result<(), Fail> {
     Ok(())
 }
 
-// A point, so many zeros, a one, and an exponent that takes the zeros back.
+// A point, this number of zeros, a one, and an exponent that takes the zeros back.
 fn small_one(alloc: Global, zeros: usize) -> Result<String, AllocError> {
     let mut text = String::from_str(alloc, ".")?;
     for _ in 0..zeros {

@@ -15,6 +15,7 @@ use Rattle.sssom_head.proofs.LinePush.{all_push, blank_push, entry_push, entries
 
 -- lines inside a map
 module _ (n map : ℕ) (entries : Option ℕ) (front : List (List ℕ)) (pairs : Prefixes) (content : List ℕ) (none : map_text content ≡ None) (i : IsInside front map entries pairs) where
+  -- a blank line stays in the map
   pub blank_inside : is_blank content ≡ true → IsInside (front ++ content ∷ []) map entries pairs
   blank_inside e =
       let same = blank_push i.since content e in
@@ -34,6 +35,7 @@ module _ (n map : ℕ) (entries : Option ℕ) (front : List (List ℕ)) (pairs :
         consistent = i.consistent;
       }
 
+  -- an entry stays in the map
   pub entry_inside : (pair : Pair) → is_blank content ≡ false → map < indentation content → has_indentation entries (indentation content) ≡ true → IsEntry content pair.0 pair.1 → is_other (iri_of (map_of pairs) pair.0) pair.1 ≡ false →
       IsInside (front ++ content ∷ []) map (Some (indentation content)) (pairs ++ pair ∷ [])
   entry_inside pair visible deeper like form other =
@@ -55,12 +57,15 @@ module _ (n map : ℕ) (entries : Option ℕ) (front : List (List ℕ)) (pairs :
         consistent = consistent_push pairs pair.0 pair.1 i.consistent other;
       }
 
+  -- a line where an entry has to stand
   pub entry_line : is_blank content ≡ false → map < indentation content → IsEntryLine map content
   entry_line visible deeper = record { no_map = none; visible = visible; deeper = deeper }
 
+  -- an entry that is already there with another value
   pub other_entry : (key value : List ℕ) → is_other (iri_of (map_of pairs) key) value ≡ true → HasOtherIri pairs key value
   other_entry key value e = other_is (iri_of pairs key) value (ap (λ (o : Option (List ℕ)). is_other o value) (sym (with_all_iri [] pairs key)) ∙ e)
 
+  -- what an entry leads to
   pub entry_found : is_blank content ≡ false → map < indentation content → has_indentation entries (indentation content) ≡ true → (o : Option Pair) → entry_of content ≡ o →
       StepFound n front (Inside map entries) pairs content (with_entry n map (indentation content) (map_of pairs) o)
   entry_found visible deeper like None e = (refl, inr (entry_line visible deeper, inr (λ key value form. let some : None ≡ Some (key, value) = sym e ∙ entry_of_is content key value form in cc)))
@@ -75,6 +80,7 @@ module _ (n map : ℕ) (entries : Option ℕ) (front : List (List ℕ)) (pairs :
         entries_are = sym (with_all_push [] pairs pair.0 pair.1);
       }
 
+  -- what a deeper line leads to
   pub deeper_found : is_blank content ≡ false → StepFound n front (Inside map entries) pairs content (inside_by n map entries (map_of pairs) content)
   deeper_found visible = by (nat_le (indentation content) map) refl
     where
@@ -92,6 +98,7 @@ module _ (n map : ℕ) (entries : Option ℕ) (front : List (List ℕ)) (pairs :
       }
       by false e = alike (not_more (indentation content) map e) (has_indentation entries (indentation content)) refl
 
+  -- what a line in the map leads to
   pub inside_found : StepFound n front (Inside map entries) pairs content (other_line n (Inside map entries) (map_of pairs) content)
   inside_found = by (is_blank content) refl
     where
@@ -100,6 +107,7 @@ module _ (n map : ℕ) (entries : Option ℕ) (front : List (List ℕ)) (pairs :
       by true e = record { pairs = pairs; sound = blank_inside e; entries_are = refl }
       by false e = deeper_found e
 
+-- one more line after the map
 pub past_push : (front : List (List ℕ)) (pairs : Prefixes) (content : List ℕ) → map_text content ≡ None → IsPlace front Past pairs → IsPlace (front ++ content ∷ []) Past pairs
 past_push front pairs content none = ⊎_elim
     (λ (h : HasEmptyMap front pairs). inl (record {
@@ -127,16 +135,19 @@ past_push front pairs content none = ⊎_elim
       no_other = (h.no_other.0, all_push (λ c. map_text c ≡ None) h.after content h.no_other.1 none);
     }))
 
+-- what a line that begins no map leads to
 pub other_found : (n : ℕ) (front : List (List ℕ)) (place : MapPlace) (pairs : Prefixes) (content : List ℕ) → map_text content ≡ None → IsPlace front place pairs →
     StepFound n front place pairs content (other_line n place (map_of pairs) content)
 other_found n front Before pairs content none h = record { pairs = pairs; sound = (all_push (λ c. map_text c ≡ None) front content h.0 none, h.1); entries_are = refl }
 other_found n front Past pairs content none h = record { pairs = pairs; sound = past_push front pairs content none h; entries_are = refl }
 other_found n front (Inside map entries) pairs content none h = inside_found n map entries front pairs content none h
 
+-- an empty list is []
 pub empty_list : (text : List ℕ) → is_empty_list text ≡ true → text ≡ []
 empty_list [] e = refl
 empty_list (b ∷ bs) e = absurd cc
 
+-- a map that opens
 pub opened : (front : List (List ℕ)) (pairs : Prefixes) (content text : List ℕ) → map_text content ≡ Some text → is_empty_list text ≡ true → BeginNoMap front → pairs ≡ [] → IsInside (front ++ content ∷ []) (indentation content) None pairs
 opened front pairs content text e empty none same = record {
   before = front;
@@ -154,6 +165,7 @@ opened front pairs content text e empty none same = record {
   consistent = subst AreConsistent (sym same) tt;
 }
 
+-- what the first line of a map leads to
 pub begun_found : (n : ℕ) (front : List (List ℕ)) (pairs : Prefixes) (content text : List ℕ) → map_text content ≡ Some text → IsPlace front Before pairs →
     StepFound n front Before pairs content (begun_by n content (map_of pairs) text)
 begun_found n front pairs content text e h = first (is_empty_list text) refl
@@ -170,15 +182,18 @@ begun_found n front pairs content text e h = first (is_empty_list text) refl
     first true t = record { pairs = pairs; sound = opened front pairs content text e t h.0 h.1; entries_are = refl }
     first false t = second t (is_empty_map text) refl
 
+-- a line with the text of a map begins one
 pub begins_is : (content text : List ℕ) → map_text content ≡ Some text → begins_map content ≡ true
 begins_is content text e = ap is_some e
 
+-- what a line that begins a map leads to
 pub map_found : (n : ℕ) (front : List (List ℕ)) (place : MapPlace) (pairs : Prefixes) (content text : List ℕ) → map_text content ≡ Some text → IsPlace front place pairs →
     StepFound n front place pairs content (map_line n place (map_of pairs) content text)
 map_found n front Before pairs content text e h = begun_found n front pairs content text e h
 map_found n front Past pairs content text e h = (refl, begins_is content text e)
 map_found n front (Inside map entries) pairs content text e h = (refl, inl (begins_is content text e))
 
+-- what each line leads to
 pub step_found : (n : ℕ) (front : List (List ℕ)) (place : MapPlace) (pairs : Prefixes) (content : List ℕ) → IsPlace front place pairs →
     StepFound n front place pairs content (step n (record { place = place; prefixes = map_of pairs }) content)
 step_found n front place pairs content h = by (map_text content) refl
@@ -208,5 +223,6 @@ run_found n front place pairs (content ∷ contents) count h =
         subst (λ (answer : Answer). IsReading (front ++ content ∷ contents) (run (n + 1) answer contents)) same
         (subst (λ (l : List (List ℕ)). IsReading l (run (n + 1) (at_place state.place (map_of found.pairs)) contents)) (append_assoc front (content ∷ []) contents) more)
 
+-- what is read is what the lines say
 pub read_is : (lines : List (List ℕ)) → IsReading lines (run 1 start lines)
 read_is lines = run_found 1 [] Before [] lines (omega arith) (tt, refl)

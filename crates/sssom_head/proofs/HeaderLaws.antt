@@ -19,6 +19,7 @@ use Rattle.sssom_head.proofs.FoundLaws.{read_is}
 fault_says : (bytes : List ℕ) (fault : HeadFault) → read bytes ≡ Err fault → IsFirstFault (contents_of bytes) fault
 fault_says bytes fault e = subst (IsReading (contents_of bytes)) e (read_is (contents_of bytes))
 
+-- the answer of a header is what its lines say
 pub header_is : (bytes : List ℕ) (result : Result Head HeadFault) → IsHeadRead bytes result → IsHeader bytes result
 header_is bytes (Ok head) h = record {
   place = h.map.place;
@@ -31,6 +32,7 @@ header_is bytes (Err (MapForm line)) h = fault_says bytes (MapForm line) h
 header_is bytes (Err (Again line)) h = fault_says bytes (Again line) h
 header_is bytes (Err OutOfMemory) h = tt
 
+-- a line is one entry at most
 pub one_entry : (content key value other_key other : List ℕ) → IsEntry content key value → IsEntry content other_key other → (key ≡ other_key) × (value ≡ other)
 one_entry content key value other_key other h k =
     let one : Pair = (key, value) in
@@ -39,6 +41,7 @@ one_entry content key value other_key other h k =
     let pair : one ≡ two = cc in
     (ap (λ (p : Pair). p.0) pair, ap (λ (p : Pair). p.1) pair)
 
+-- an entry of the header comes before a built-in one
 pub built_in_last : (entries : Prefixes) (prefix : List ℕ) → iri_of (with_built_in entries) prefix ≡ cond (is_declared entries prefix) (iri_of entries prefix) (iri_of built_in prefix)
 built_in_last entries prefix = with_all_iri entries built_in prefix ∙ by (iri_of entries prefix)
   where

@@ -4,6 +4,7 @@ use Rattle.std.specs.Prelude.{◌==◌}
 use Rattle.sssom_head.specs.Contents.{indentation, behind_spaces}
 use Rattle.sssom_head.specs.Lines.{onto_line, lines_of, first_line_end, begins_with_hash, hash_lines, header_lines}
 
+-- the first line, and the lines after it
 pub first_line : (b : ℕ) (bs : List ℕ) → lines_of (b ∷ bs) ≡ take (first_line_end (b ∷ bs)) (b ∷ bs) ∷ lines_of (drop (first_line_end (b ∷ bs)) (b ∷ bs))
 first_line b [] = by (b == 10)
   where
@@ -20,6 +21,7 @@ first_line b (c ∷ cs) = by (b == 10) (first_line c cs)
         let e : suc (first_line_end l) ≡ 1 + first_line_end l = omega arith in
         ap (onto_line b) rest ∙ ap (λ (k : ℕ). take k (b ∷ l) ∷ lines_of (drop k (b ∷ l))) e
 
+-- the first line has a byte
 pub first_line_some : (b : ℕ) (bs : List ℕ) → 1 ≤ first_line_end (b ∷ bs)
 first_line_some b bs = by (b == 10)
   where
@@ -40,6 +42,7 @@ first_header_line (b ∷ bs) e =
     begins_again zero h = absurd (omega arith)
     begins_again (suc n) h = e
 
+-- a text that does not begin with # has no header line
 pub no_header_line : (text : List ℕ) → begins_with_hash text ≡ false → header_lines text ≡ []
 no_header_line [] e = refl
 no_header_line (b ∷ bs) e =
@@ -51,11 +54,12 @@ no_header_line (b ∷ bs) e =
     begins_again zero h = absurd (omega arith)
     begins_again (suc n) h = e
 
+-- a header line has a byte
 pub some_text : (text : List ℕ) → begins_with_hash text ≡ true → 1 ≤ first_line_end text
 some_text [] e = absurd cc
 some_text (b ∷ bs) e = first_line_some b bs
 
--- what stands behind the spaces
+-- what stands after the spaces
 pub drop_spaces : (content : List ℕ) → drop (indentation content) content ≡ behind_spaces content
 drop_spaces [] = refl
 drop_spaces (b ∷ bs) = by (b == 32) (drop_spaces bs)

@@ -17,10 +17,12 @@ pub all_push : {X : Type 0} (P : X → Type 0) (xs : List X) (x : X) → AllByRe
 all_push P [] x h p = (p, tt)
 all_push P (y ∷ ys) x h p = (h.0, all_push P ys x h.1 p)
 
+-- a weaker fact of each
 pub all_weaker : {X : Type 0} (P Q : X → Type 0) → ((x : X) → P x → Q x) → (xs : List X) → AllByRecursion P xs → AllByRecursion Q xs
 all_weaker P Q f [] h = tt
 all_weaker P Q f (x ∷ xs) h = (f x h.0, all_weaker P Q f xs h.1)
 
+-- one more blank line adds no entry
 pub blank_push : (lines : List (List ℕ)) (content : List ℕ) → is_blank content ≡ true → entry_lines (lines ++ content ∷ []) ≡ entry_lines lines
 blank_push [] content e = ap (λ (d : Bool). cond d [] (content ∷ [])) e
 blank_push (line ∷ lines) content e = by (is_blank line) (blank_push lines content e)
@@ -29,6 +31,7 @@ blank_push (line ∷ lines) content e = by (is_blank line) (blank_push lines con
     by true h = h
     by false h = ap (λ (l : List (List ℕ)). line ∷ l) h
 
+-- one more line that is not blank is an entry line
 pub entry_push : (lines : List (List ℕ)) (content : List ℕ) → is_blank content ≡ false → entry_lines (lines ++ content ∷ []) ≡ entry_lines lines ++ content ∷ []
 entry_push [] content e = ap (λ (d : Bool). cond d [] (content ∷ [])) e
 entry_push (line ∷ lines) content e = by (is_blank line) (entry_push lines content e)
@@ -37,22 +40,26 @@ entry_push (line ∷ lines) content e = by (is_blank line) (entry_push lines con
     by true h = h
     by false h = ap (λ (l : List (List ℕ)). line ∷ l) h
 
+-- one more entry
 pub entries_push : (lines : List (List ℕ)) (content : List ℕ) (pairs : Prefixes) (key value : List ℕ) → AreEntries lines pairs → IsEntry content key value → AreEntries (lines ++ content ∷ []) (pairs ++ (key, value) ∷ [])
 entries_push [] content [] key value h e = (e, tt)
 entries_push [] content (p ∷ ps) key value h e = absurd h
 entries_push (line ∷ lines) content [] key value h e = absurd h
 entries_push (line ∷ lines) content (p ∷ ps) key value h e = (h.0, entries_push lines content ps key value h.1 e)
 
+-- the first indentation, with one more line
 pub first_push : (lines : List (List ℕ)) (content : List ℕ) → has_indentation (first_indentation lines) (indentation content) ≡ true → first_indentation (lines ++ content ∷ []) ≡ Some (indentation content)
 first_push [] content e = refl
 first_push (line ∷ lines) content e = ap (λ (n : ℕ). Some n) (let same : indentation line ≡ indentation content = grind (arith, nat_tests) in same)
 
+-- the first indentation is there with one more line
 pub first_stays : (lines : List (List ℕ)) (content : List ℕ) → has_indentation (first_indentation lines) (indentation content) ≡ true → AreAlike lines → AreAlike (lines ++ content ∷ [])
 first_stays [] content e h = (refl, tt)
 first_stays (line ∷ lines) content e h =
     let same : indentation content ≡ indentation line = grind (arith, nat_tests) in
     (refl, all_push (λ c. Some (indentation c) ≡ Some (indentation line)) lines content h.1 (ap (λ (n : ℕ). Some n) same))
 
+-- one more entry that agrees with the others
 pub consistent_push : (pairs : Prefixes) (key value : List ℕ) → AreConsistent pairs → is_other (iri_of (map_of pairs) key) value ≡ false → AreConsistent (pairs ++ (key, value) ∷ [])
 consistent_push pairs key value h e =
     let more = pairs ++ (key, value) ∷ [] in
@@ -71,23 +78,29 @@ pub record Leads (lines : List (List ℕ)) (state : State) : Type 0 where
   pub sound : IsPlace lines state.place pairs
   pub entries_are : state.prefixes ≡ map_of pairs
 
+-- what a step finds of the lines so far
 abbrev pub StepFound : ℕ → List (List ℕ) → MapPlace → Prefixes → List ℕ → Answer → Type 0
 StepFound n front place pairs content (Ok state) = Leads (front ++ content ∷ []) state
 StepFound n front place pairs content (Err fault) = IsFault n place pairs content fault
 
+-- one more line after those of a map
 pub more_lines : (front before since : List (List ℕ)) (own content : List ℕ) → front ≡ before ++ own ∷ since → front ++ content ∷ [] ≡ before ++ own ∷ (since ++ content ∷ [])
 more_lines front before since own content e = ap (λ (l : List (List ℕ)). l ++ content ∷ []) e ∙ append_assoc before (own ∷ since) (content ∷ [])
 
+-- a failed comparison is the other way round
 pub not_more : (a b : ℕ) → nat_le a b ≡ false → b < a
 not_more a b e = grind (arith, nat_tests)
 
+-- a comparison that holds
 pub no_more : (a b : ℕ) → nat_le a b ≡ true → a ≤ b
 no_more a b e = grind (arith, nat_tests)
 
+-- another indentation than that of the entries
 pub unlike : (entries : Option ℕ) (content : List ℕ) → has_indentation entries (indentation content) ≡ false → IsUnlike entries content
 unlike None content e = absurd cc
 unlike (Some n) content e = λ same. let yes : (n == indentation content) ≡ true = grind (arith, nat_tests) in absurd cc
 
+-- the same indentation as that of the entries
 pub like_is : (entries : Option ℕ) (content : List ℕ) → has_indentation entries (indentation content) ≡ true → ¬ (IsUnlike entries content)
 like_is None content e = λ h. h
 like_is (Some n) content e = λ h. h (let same : n ≡ indentation content = grind (arith, nat_tests) in same)

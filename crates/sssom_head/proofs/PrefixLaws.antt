@@ -11,22 +11,27 @@ abbrev pub or_iri : Option (List ℕ) → Option (List ℕ) → Option (List ℕ
 or_iri None other = other
 or_iri (Some iri) other = Some iri
 
+-- nothing on the right
 or_none : (o : Option (List ℕ)) → or_iri o None ≡ o
 or_none None = refl
 or_none (Some iri) = refl
 
+-- three in a row
 or_assoc : (a b c : Option (List ℕ)) → or_iri (or_iri a b) c ≡ or_iri a (or_iri b c)
 or_assoc None b c = refl
 or_assoc (Some iri) b c = refl
 
+-- a value on the left
 some_or : (o other : Option (List ℕ)) → is_some o ≡ true → or_iri o other ≡ o
 some_or None other e = absurd cc
 some_or (Some iri) other e = refl
 
+-- what is not there is None
 none_is : (o : Option (List ℕ)) → is_some o ≡ false → o ≡ None
 none_is None e = refl
 none_is (Some iri) e = absurd cc
 
+-- the IRI of a prefix, with one more at the front
 iri_cons : (a v k : List ℕ) (ps : Prefixes) → iri_of ((a, v) ∷ ps) k ≡ or_iri (iri_of ((a, v) ∷ []) k) (iri_of ps k)
 iri_cons a v k ps = by (bytes_eq k a)
   where
@@ -34,6 +39,7 @@ iri_cons a v k ps = by (bytes_eq k a)
     by true = refl
     by false = refl
 
+-- the IRI of a prefix in two lists
 pub iri_append : (xs ys : Prefixes) (k : List ℕ) → iri_of (xs ++ ys) k ≡ or_iri (iri_of xs k) (iri_of ys k)
 iri_append [] ys k = refl
 iri_append (x ∷ xs) ys k = by (bytes_eq k x.0) (iri_append xs ys k)
@@ -42,6 +48,7 @@ iri_append (x ∷ xs) ys k = by (bytes_eq k x.0) (iri_append xs ys k)
     by true e = refl
     by false e = e
 
+-- the IRI of a prefix, with one more declared
 with_prefix_iri : (held : Prefixes) (a v k : List ℕ) → iri_of (with_prefix held a v) k ≡ or_iri (iri_of held k) (iri_of ((a, v) ∷ []) k)
 with_prefix_iri held a v k = by (is_some (iri_of held a)) refl
   where
@@ -64,6 +71,7 @@ with_all_iri held (p ∷ ps) k =
     ∙ or_assoc (iri_of held k) (iri_of ((p.0, p.1) ∷ []) k) (iri_of ps k)
     ∙ ap (or_iri (iri_of held k)) (sym (iri_cons p.0 p.1 k ps))
 
+-- one more of all
 pub with_all_push : (held pairs : Prefixes) (k v : List ℕ) → with_all held (pairs ++ (k, v) ∷ []) ≡ with_prefix (with_all held pairs) k v
 with_all_push held [] k v = refl
 with_all_push held (p ∷ ps) k v = with_all_push (with_prefix held p.0 p.1) ps k v
@@ -77,6 +85,7 @@ other_is (Some held) value e = λ same. by (bytes_eq held value) refl e ((bytes_
     by true e h k = cc
     by false e h k = cc
 
+-- another value than the one that is held
 pub is_other_value : (o : Option (List ℕ)) (value : List ℕ) → IsSomeAnd o (λ held. held ≢ value) → is_other o value ≡ true
 is_other_value None value h = absurd h
 is_other_value (Some held) value h = by (bytes_eq held value) refl
@@ -85,6 +94,7 @@ is_other_value (Some held) value h = by (bytes_eq held value) refl
     by true e = absurd (h ((bytes_decides held value).0 e))
     by false e = refl
 
+-- the same value
 pub same_value : (o : Option (List ℕ)) (value : List ℕ) → is_other o value ≡ false → or_iri o (Some value) ≡ Some value
 same_value None value e = refl
 same_value (Some held) value e = by (bytes_eq held value) refl e
@@ -93,6 +103,7 @@ same_value (Some held) value e = by (bytes_eq held value) refl e
     by true t h = ap (λ (l : List ℕ). Some l) ((bytes_decides held value).0 t)
     by false t h = absurd cc
 
+-- no other value
 pub no_other_value : (o rest : Option (List ℕ)) (value : List ℕ) → or_iri o rest ≡ Some value → is_other o value ≡ false
 no_other_value None rest value e = refl
 no_other_value (Some held) rest value e =

@@ -31,47 +31,58 @@ run_append n (Ok state) (x ∷ xs) ys =
     let same : n + 1 + length xs ≡ n + length (x ∷ xs) = omega arith in
     run_append (n + 1) (step n state x) xs ys ∙ ap (λ (k : ℕ). run k (run (n + 1) (step n state x) xs) ys) same
 
+-- a step at a line that begins no map
 pub step_none : (n : ℕ) (place : MapPlace) (prefixes : Prefixes) (content : List ℕ) → map_text content ≡ None → step n (record { place = place; prefixes = prefixes }) content ≡ other_line n place prefixes content
 step_none n place prefixes content e = ap (by_line n place prefixes content) e
 
+-- a step at a line that begins one
 pub step_some : (n : ℕ) (place : MapPlace) (prefixes : Prefixes) (content text : List ℕ) → map_text content ≡ Some text → step n (record { place = place; prefixes = prefixes }) content ≡ map_line n place prefixes content text
 step_some n place prefixes content text e = ap (by_line n place prefixes content) e
 
+-- lines without a map, before one
 pub run_before : (n : ℕ) (prefixes : Prefixes) (lines : List (List ℕ)) → BeginNoMap lines → run n (at_place Before prefixes) lines ≡ at_place Before prefixes
 run_before n prefixes [] h = refl
 run_before n prefixes (content ∷ contents) h = ap (λ (a : Answer). run (n + 1) a contents) (step_none n Before prefixes content h.0) ∙ run_before (n + 1) prefixes contents h.1
 
+-- lines without a map, after one
 pub run_past : (n : ℕ) (prefixes : Prefixes) (lines : List (List ℕ)) → BeginNoMap lines → run n (at_place Past prefixes) lines ≡ at_place Past prefixes
 run_past n prefixes [] h = refl
 run_past n prefixes (content ∷ contents) h = ap (λ (a : Answer). run (n + 1) a contents) (step_none n Past prefixes content h.0) ∙ run_past (n + 1) prefixes contents h.1
 
--- the indentation of the entries so far, behind more lines
+-- the indentation of the entries so far, after more lines
 abbrev pub after_entries : Option ℕ → Option ℕ → List (List ℕ) → Option ℕ
 after_entries entries all [] = entries
 after_entries entries all (content ∷ contents) = all
 
+-- the indentation of all entries stays
 pub after_all : (all : Option ℕ) (lines : List (List ℕ)) → after_entries all all lines ≡ all
 after_all all [] = refl
 after_all all (content ∷ contents) = refl
 
+-- a greater number is not less or equal
 pub more_is : (a b : ℕ) → b < a → nat_le a b ≡ false
 more_is a b h = grind (arith, nat_tests)
 
+-- a number that is less or equal
 pub less_is : (a b : ℕ) → a ≤ b → nat_le a b ≡ true
 less_is a b h = grind (arith, nat_tests)
 
+-- the entries so far, if any, have the indentation of all
 abbrev pub FitsAll : Option ℕ → Option ℕ → Type 0
 FitsAll entries all = (entries ≡ None) ⊎ (entries ≡ all)
 
+-- an entry of that indentation fits
 pub fits_like : (entries all : Option ℕ) (n : ℕ) → FitsAll entries all → Some n ≡ all → has_indentation entries n ≡ true
 fits_like entries all n h e = ⊎_elim
     (λ (none : entries ≡ None). ap (λ (o : Option ℕ). has_indentation o n) none)
     (λ (same : entries ≡ all). ap (λ (o : Option ℕ). has_indentation o n) (same ∙ sym e) ∙ let own : (n == n) ≡ true = grind (arith, nat_tests) in own)
     h
 
+-- a line that stays in the map and is not blank is deeper
 pub stays_deeper : (map : ℕ) (content : List ℕ) → StaysInside map content → is_blank content ≡ false → map < indentation content
 stays_deeper map content h e = ⊎_elim (λ (blank : is_blank content ≡ true). absurd cc) (λ deeper. deeper) h
 
+-- a step at an entry
 pub entry_step : (n map : ℕ) (entries : Option ℕ) (front : Prefixes) (content : List ℕ) (pair : Pair) → map_text content ≡ None → is_blank content ≡ false → map < indentation content →
     has_indentation entries (indentation content) ≡ true → IsEntry content pair.0 pair.1 → is_other (iri_of (map_of front) pair.0) pair.1 ≡ false →
     step n (record { place = Inside map entries; prefixes = map_of front }) content ≡ at_place (Inside map (Some (indentation content))) (map_of (front ++ pair ∷ []))
@@ -90,6 +101,7 @@ entry_agrees front rest pair e =
     ap (λ (o : Option (List ℕ)). is_other o pair.1) (with_all_iri [] front pair.0)
     ∙ no_other_value (iri_of front pair.0) (iri_of (pair ∷ rest) pair.0) pair.1 (sym (iri_append front (pair ∷ rest) pair.0) ∙ e)
 
+-- the lines of a map since its first
 pub run_since : (n map : ℕ) (entries all : Option ℕ) (front : Prefixes) (lines : List (List ℕ)) (pairs whole : Prefixes) → whole ≡ front ++ pairs → BeginNoMap lines → AllByRecursion (StaysInside map) lines → FitsAll entries all →
     AllByRecursion (λ content. Some (indentation content) ≡ all) (entry_lines lines) → AreEntries (entry_lines lines) pairs → AllByRecursion (λ pair. iri_of whole pair.0 ≡ Some pair.1) pairs →
     run n (at_place (Inside map entries) (map_of front)) lines ≡ at_place (Inside map (after_entries entries all (entry_lines lines))) (map_of whole)
@@ -121,10 +133,12 @@ run_since n map entries all front (content ∷ contents) pairs whole w none insi
             ∙ rest (Some (indentation content)) (front ++ pair ∷ []) others (w ∙ sym (append_assoc front (pair ∷ []) others)) (inr a.0) a.1 s.1 agree.1
             ∙ ap (λ (o : Option ℕ). at_place (Inside map o) (map_of whole)) (ap (λ (o : Option ℕ). after_entries o all (entry_lines contents)) a.0 ∙ after_all all (entry_lines contents))
 
+-- the first indentation is that of all
 pub first_after : (lines : List (List ℕ)) → after_entries None (first_indentation lines) lines ≡ first_indentation lines
 first_after [] = refl
 first_after (content ∷ contents) = refl
 
+-- a map is read
 pub inside_read : (lines : List (List ℕ)) (map : ℕ) (entries : Option ℕ) (pairs : Prefixes) → IsInside lines map entries pairs → run 1 start lines ≡ at_place (Inside map entries) (map_of pairs)
 inside_read lines map entries pairs i =
     let all = first_indentation (entry_lines i.since) in
@@ -137,6 +151,7 @@ inside_read lines map entries pairs i =
     ∙ run_since (n + 1) map None all [] i.since pairs pairs refl i.no_other i.inside (inl refl) i.alike i.spelled i.consistent
     ∙ ap (λ (o : Option ℕ). at_place (Inside map o) (map_of pairs)) (first_after (entry_lines i.since) ∙ sym i.entries_are)
 
+-- a map that is written {} is read
 pub empty_read : (lines : List (List ℕ)) (pairs : Prefixes) → HasEmptyMap lines pairs → run 1 start lines ≡ at_place Past (map_of pairs)
 empty_read lines pairs h =
     let n = 1 + length h.before in
@@ -152,6 +167,7 @@ empty_read lines pairs h =
     begun n own [] e = absurd cc
     begun n own (b ∷ bs) e = ap (λ (d : Bool). cond d (at_place Past []) (Err (MapForm n))) e
 
+-- a map that has ended is read
 pub ended_read : (lines : List (List ℕ)) (pairs : Prefixes) → HasEndedMap lines pairs → run 1 start lines ≡ at_place Past (map_of pairs)
 ended_read lines pairs h =
     let n = 1 + length h.map_lines in
@@ -164,11 +180,13 @@ ended_read lines pairs h =
     ∙ ap (λ (d : Bool). cond d (at_place Past (map_of pairs)) (cond (has_indentation h.entries (indentation h.last)) (with_entry n h.map (indentation h.last) (map_of pairs) (entry_of h.last)) (Err (MapForm n)))) (less_is (indentation h.last) h.map h.shallow))
     ∙ run_past (n + 1) (map_of pairs) h.after h.no_other.1
 
+-- lines without a fault are read
 pub place_read : (lines : List (List ℕ)) (place : MapPlace) (pairs : Prefixes) → IsPlace lines place pairs → run 1 start lines ≡ at_place place (map_of pairs)
 place_read lines Before pairs h = run_before 1 [] lines h.0 ∙ ap (λ (ps : Prefixes). at_place Before (map_of ps)) (sym h.1)
 place_read lines Past pairs h = ⊎_elim (empty_read lines pairs) (ended_read lines pairs) h
 place_read lines (Inside map entries) pairs h = inside_read lines map entries pairs h
 
+-- a line that begins a map, as a step
 pub map_some : (n : ℕ) (place : MapPlace) (prefixes : Prefixes) (content : List ℕ) → begins_map content ≡ true →
     ((text : List ℕ) → map_text content ≡ Some text → map_line n place prefixes content text ≡ Err (MapForm n)) → step n (record { place = place; prefixes = prefixes }) content ≡ Err (MapForm n)
 map_some n place prefixes content e next = by (map_text content) refl e
@@ -177,6 +195,7 @@ map_some n place prefixes content e next = by (map_text content) refl e
     by None t h = absurd cc
     by (Some text) t h = step_some n place prefixes content text t ∙ next text t
 
+-- a first line of another form is a fault
 pub malformed : (n : ℕ) (prefixes : Prefixes) (content : List ℕ) → IsMapFault Before content → step n (record { place = Before; prefixes = prefixes }) content ≡ Err (MapForm n)
 malformed n prefixes content h = by (map_text content) refl h
   where
@@ -197,10 +216,12 @@ at_entry n map entries prefixes content line =
     ∙ ap (λ (d : Bool). cond d (at_place (Inside map entries) prefixes) (inside_by n map entries prefixes content)) line.visible
     ∙ ap (λ (d : Bool). cond d (at_place Past prefixes) (cond (has_indentation entries (indentation content)) (with_entry n map (indentation content) prefixes (entry_of content)) (Err (MapForm n)))) (more_is (indentation content) map line.deeper)
 
+-- another indentation
 pub unlike_is : (entries : Option ℕ) (content : List ℕ) → IsUnlike entries content → has_indentation entries (indentation content) ≡ false
 unlike_is None content h = absurd h
 unlike_is (Some m) content h = grind (arith, nat_tests)
 
+-- no other indentation
 pub like_again : (entries : Option ℕ) (content : List ℕ) → ¬ (IsUnlike entries content) → has_indentation entries (indentation content) ≡ true
 like_again None content h = refl
 like_again (Some m) content h = by (m == indentation content) refl
@@ -209,6 +230,7 @@ like_again (Some m) content h = by (m == indentation content) refl
     by true e = refl
     by false e = absurd (h (λ same. let yes : (m == indentation content) ≡ true = grind (arith, nat_tests) in cc))
 
+-- a line that is no entry
 pub no_entry : (content : List ℕ) → ((key value : List ℕ) → IsEntry content key value → ⊥) → entry_of content ≡ None
 no_entry content h = by (entry_of content) refl
   where
@@ -216,6 +238,7 @@ no_entry content h = by (entry_of content) refl
     by None e = refl
     by (Some pair) e = absurd (h pair.0 pair.1 (entry_is content pair e))
 
+-- an entry of another form or indentation is a fault
 pub bad_entry : (n map : ℕ) (entries : Option ℕ) (prefixes : Prefixes) (content : List ℕ) → IsUnlike entries content ⊎ ((key value : List ℕ) → IsEntry content key value → ⊥) →
     cond (has_indentation entries (indentation content)) (with_entry n map (indentation content) prefixes (entry_of content)) (Err (MapForm n)) ≡ Err (MapForm n)
 bad_entry n map entries prefixes content h = ⊎_elim
@@ -229,6 +252,7 @@ bad_entry n map entries prefixes content h = ⊎_elim
     either true = refl
     either false = refl
 
+-- a line that has no form of a map is a fault
 pub map_fault_read : (n : ℕ) (place : MapPlace) (pairs : Prefixes) (content : List ℕ) → IsMapFault place content → step n (record { place = place; prefixes = map_of pairs }) content ≡ Err (MapForm n)
 map_fault_read n Before pairs content h = malformed n (map_of pairs) content h
 map_fault_read n Past pairs content h = map_some n Past (map_of pairs) content h (λ text e. refl)
@@ -237,6 +261,7 @@ map_fault_read n (Inside map entries) pairs content h = ⊎_elim
     (λ bad. at_entry n map entries (map_of pairs) content bad.0 ∙ bad_entry n map entries (map_of pairs) content bad.1)
     h
 
+-- a prefix with another value is a fault
 pub again_read : (n : ℕ) (place : MapPlace) (pairs : Prefixes) (content : List ℕ) → IsAgainAt place pairs content → step n (record { place = place; prefixes = map_of pairs }) content ≡ Err (Again n)
 again_read n Before pairs content h = absurd h
 again_read n Past pairs content h = absurd h
@@ -247,15 +272,18 @@ again_read n (Inside map entries) pairs content h =
     ∙ ap (λ (d : Bool). cond d (Err (Again n)) (at_place (Inside map (Some (indentation content))) (with_prefix (map_of pairs) h.key h.value)))
     (ap (λ (o : Option (List ℕ)). is_other o h.value) (with_all_iri [] pairs h.key) ∙ is_other_value (iri_of pairs h.key) h.value h.other)
 
+-- a line that is wrong is read as its fault
 pub fault_read : (n : ℕ) (place : MapPlace) (pairs : Prefixes) (content : List ℕ) (fault : HeadFault) → IsFault n place pairs content fault → step n (record { place = place; prefixes = map_of pairs }) content ≡ Err fault
 fault_read n place pairs content (MapForm line) h = map_fault_read n place pairs content h.1 ∙ ap (λ (k : ℕ). Err (MapForm k)) (sym h.0)
 fault_read n place pairs content (Again line) h = again_read n place pairs content h.1 ∙ ap (λ (k : ℕ). Err (Again k)) (sym h.0)
 fault_read n place pairs content OutOfMemory h = absurd h
 
+-- a fault stays
 pub run_fault : (n : ℕ) (fault : HeadFault) (lines : List (List ℕ)) → run n (Err fault) lines ≡ Err fault
 run_fault n fault [] = refl
 run_fault n fault (content ∷ contents) = refl
 
+-- what the lines say is read
 pub is_read : (lines : List (List ℕ)) (answer : Answer) → IsReading lines answer → run 1 start lines ≡ answer
 is_read lines (Ok state) h = place_read lines state.place h.pairs h.sound ∙ ap (at_place state.place) (sym h.entries_are)
 is_read lines (Err fault) h =

@@ -23,6 +23,7 @@ joined (b ∷ bs) = by (b == 10) refl (joined bs)
     by true e rest = ap (λ (l : List ℕ). b ∷ l) rest
     by false e rest = concat_onto b (lines_of bs) ∙ ap (λ (l : List ℕ). b ∷ l) rest
 
+-- a line feed is a line
 one_feed : (b : ℕ) → (b == 10) ≡ true → IsWholeLine (b ∷ [])
 one_feed b e = record { own = []; no_feed = tt; spelled = ap (λ (c : ℕ). c ∷ []) (eqb-true b 10 e) }
 
@@ -34,6 +35,7 @@ longer_line b line later e is =
     (λ last. inr (record { last = last.last; some = omega arith; no_feed = (e, last.no_feed) }))
     is
 
+-- a byte more before lines
 longer_lines : (b : ℕ) (lines : List (List ℕ)) → (b == 10) ≡ false → AreLines lines → AreLines (onto_line b lines)
 longer_lines b [] e are = (inr (record { last = refl; some = omega arith; no_feed = (e, tt) }), tt)
 longer_lines b (line ∷ lines) e are = (longer_line b line lines e are.0, are.1)
@@ -52,6 +54,7 @@ first_whole : (own rest : List ℕ) → HasNoLineFeed own → lines_of ((own ++ 
 first_whole [] rest none = refl
 first_whole (b ∷ own) rest none = rw none.0 (ap (onto_line b) (first_whole own rest none.1))
 
+-- a line without a line feed is the only one
 only_open : (line : List ℕ) → 1 ≤ length line → HasNoLineFeed line → lines_of line ≡ line ∷ []
 only_open [] some none = absurd (omega arith)
 only_open (b ∷ []) some none = rw none.0 refl
@@ -75,6 +78,7 @@ abbrev other_lines : List (List ℕ) → List (List ℕ)
 other_lines [] = []
 other_lines (line ∷ lines) = cond (begins_with_hash line) (other_lines lines) (line ∷ lines)
 
+-- header lines come first
 split_lines : (lines : List (List ℕ)) → lines ≡ hash_lines lines ++ other_lines lines
 split_lines [] = refl
 split_lines (line ∷ lines) = by (begins_with_hash line) (split_lines lines)
@@ -83,6 +87,7 @@ split_lines (line ∷ lines) = by (begins_with_hash line) (split_lines lines)
     by true rest = ap (λ (ls : List (List ℕ)). line ∷ ls) rest
     by false rest = refl
 
+-- each header line begins with #
 pub all_marked : (lines : List (List ℕ)) → AllByRecursion (λ line. begins_with_hash line ≡ true) (hash_lines lines)
 all_marked [] = tt
 all_marked (line ∷ lines) = by (begins_with_hash line) refl (all_marked lines)
@@ -91,6 +96,7 @@ all_marked (line ∷ lines) = by (begins_with_hash line) refl (all_marked lines)
     by true e rest = (e, rest)
     by false e rest = tt
 
+-- the other lines are lines
 others_are : (lines : List (List ℕ)) → AreLines lines → AreLines (other_lines lines)
 others_are [] are = tt
 others_are (line ∷ lines) are = by (begins_with_hash line) (others_are lines are.1)
@@ -99,6 +105,7 @@ others_are (line ∷ lines) are = by (begins_with_hash line) (others_are lines a
     by true rest = rest
     by false rest = are
 
+-- the bytes in lines
 bytes_in_is : (lines : List (List ℕ)) → bytes_in lines ≡ length (concat lines)
 bytes_in_is [] = refl
 bytes_in_is (line ∷ lines) = omega (arith, bytes_in_is lines, length-append line (concat lines))
@@ -107,10 +114,12 @@ bytes_in_is (line ∷ lines) = omega (arith, bytes_in_is lines, length-append li
 line_has_bytes : (line : List ℕ) (later : List (List ℕ)) → IsWholeLine line ⊎ IsOpenLine line later → 1 ≤ length line
 line_has_bytes line later is = ⊎_elim (λ whole. omega (arith, ap length whole.spelled, length-append whole.own (10 ∷ []))) (λ last. last.some) is
 
+-- a line that is not empty begins the text
 begins_alike : (line rest : List ℕ) → 1 ≤ length line → begins_with_hash (line ++ rest) ≡ begins_with_hash line
 begins_alike [] rest some = absurd (omega arith)
 begins_alike (b ∷ line) rest some = refl
 
+-- the other lines do not begin with #
 others_begin : (lines : List (List ℕ)) → AreLines lines → begins_with_hash (concat (other_lines lines)) ≡ false
 others_begin [] are = refl
 others_begin (line ∷ lines) are = by (begins_with_hash line) refl (others_begin lines are.1)
@@ -120,23 +129,28 @@ others_begin (line ∷ lines) are = by (begins_with_hash line) refl (others_begi
     by false e rest = begins_alike line (concat lines) (line_has_bytes line lines are.0) ∙ e
 
 module _ (text : List ℕ) where
+  -- a text is its header and the rest
   split_text : text ≡ concat (header_lines text) ++ concat (other_lines (lines_of text))
   split_text = sym (joined text) ∙ ap concat (split_lines (lines_of text)) ∙ concat-append (header_lines text) (other_lines (lines_of text))
 
+  -- the header is the front of the text
   pub header_front : concat (header_lines text) ≡ take (bytes_in (header_lines text)) text
   header_front =
       sym (take-append_seam (concat (header_lines text)) (concat (other_lines (lines_of text))))
       ∙ ap (λ (l : List ℕ). take (length (concat (header_lines text))) l) (sym split_text)
       ∙ ap (λ (n : ℕ). take n text) (sym (bytes_in_is (header_lines text)))
 
+  -- the rest are the other lines
   after_header : drop (bytes_in (header_lines text)) text ≡ concat (other_lines (lines_of text))
   after_header =
       ap (drop (bytes_in (header_lines text))) split_text
       ∙ drop_at (concat (header_lines text)) (concat (other_lines (lines_of text))) (bytes_in (header_lines text)) (sym (bytes_in_is (header_lines text)))
 
+  -- the rest does not begin with #
   pub rest_begins : begins_with_hash (drop (bytes_in (header_lines text)) text) ≡ false
   rest_begins = ap begins_with_hash after_header ∙ others_begin (lines_of text) (lines_are text)
 
+  -- the rest has the other lines
   pub rest_lines : lines_of text ≡ header_lines text ++ lines_of (drop (bytes_in (header_lines text)) text)
   rest_lines =
       split_lines (lines_of text)
@@ -161,10 +175,12 @@ end_within (b ∷ bs) = by (is_space_or_tab b && trimmed_end bs == 0) (end_withi
     by true rest = omega arith
     by false rest = omega arith
 
+-- the first test fails
 only_left : (v w : Bool) → w ≡ true → (v && w) ≡ false → v ≡ false
 only_left true w one both = absurd (let e : true ≡ false = sym one ∙ both in cc)
 only_left false w one both = refl
 
+-- a byte before a trimmed text that is visible, or is itself
 some_visible : (b : ℕ) (bs : List ℕ) → (is_space_or_tab b && trimmed_end bs == 0) ≡ false → IsTrimmed bs (trimmed bs) → IsTrimmed (b ∷ bs) (b ∷ trimmed bs)
 some_visible b bs e rest = record {
   blank = rest.blank;
@@ -184,6 +200,7 @@ some_visible b bs e rest = record {
         ap is_space_or_tab (sym first) ∙ own
     last_of (d ∷ before) c same = let more : trimmed bs ≡ before ++ c ∷ [] = cc in rest.last before c more
 
+-- a trimmed text
 pub trims : (text : List ℕ) → IsTrimmed text (trimmed text)
 trims [] = record { blank = []; whole = refl; spaces = tt; last = λ before b e. absurd (omega (arith, ap length e, length-append before (b ∷ []))) }
 trims (b ∷ bs) = by (is_space_or_tab b && trimmed_end bs == 0) refl (trims bs)

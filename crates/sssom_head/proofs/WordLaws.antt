@@ -17,10 +17,12 @@ pub get_mid : (xs ys : List ℕ) (b : ℕ) → get_or (xs ++ b ∷ ys) (length x
 get_mid [] ys b = refl
 get_mid (x ∷ xs) ys b = get_mid xs ys b
 
+-- what follows an element
 pub drop_mid : (xs ys : List ℕ) (b : ℕ) → drop (suc (length xs)) (xs ++ b ∷ ys) ≡ ys
 drop_mid [] ys b = refl
 drop_mid (x ∷ xs) ys b = drop_mid xs ys b
 
+-- both parts of a text in UTF-8 are so
 pub utf8_parts : (xs ys : List ℕ) (b : ℕ) → b < 128 → IsUtf8 (xs ++ b ∷ ys) → IsUtf8 xs × IsUtf8 ys
 utf8_parts xs ys b small h =
     let whole = xs ++ b ∷ ys in
@@ -42,6 +44,7 @@ spaces_join (b ∷ bs) = by (b == 32) refl (spaces_join bs)
         ap (λ (k : ℕ). k ∷ bs) (eqb-true b 32 e) ∙ ap (λ (l : List ℕ). 32 ∷ l) rest ∙ ap (λ (k : ℕ). replicate k 32 ++ behind_spaces bs) more
     by false e rest = refl
 
+-- what follows the spaces begins with none
 pub spaces_end : (text : List ℕ) → BeginsWithout is_space (behind_spaces text)
 spaces_end [] = tt
 spaces_end (b ∷ bs) = by (b == 32) refl (spaces_end bs)
@@ -50,10 +53,12 @@ spaces_end (b ∷ bs) = by (b == 32) refl (spaces_end bs)
     by true e rest = rest
     by false e rest = e
 
+-- without spaces nothing is left out
 pub no_spaces : (rest : List ℕ) → BeginsWithout is_space rest → behind_spaces rest ≡ rest
 no_spaces [] h = refl
 no_spaces (b ∷ bs) h = ap (λ (d : Bool). cond d (behind_spaces bs) (b ∷ bs)) h
 
+-- spaces are read back
 pub spaces_back : (n : ℕ) (rest : List ℕ) → BeginsWithout is_space rest → behind_spaces (replicate n 32 ++ rest) ≡ rest
 spaces_back zero rest h = no_spaces rest h
 spaces_back (suc n) rest h = spaces_back n rest h
@@ -66,6 +71,7 @@ pub record QuoteFound (quote n m : ℕ) (bytes : List ℕ) : Type 0 where
   pub all : AllPassing (is_quoted_byte quote) own
   pub at : m ≡ n + length own
 
+-- a quote that is found is the first
 pub quote_found : (quote n m : ℕ) (bytes : List ℕ) → quote_at quote n bytes ≡ Some m → QuoteFound quote n m bytes
 quote_found quote n m [] e = absurd cc
 quote_found quote n m (b ∷ bs) e = first (b == quote) refl e (quote_found quote (n + 1) m bs)
@@ -82,9 +88,11 @@ quote_found quote n m (b ∷ bs) e = first (b == quote) refl e (quote_found quot
     first true t h rest = record { own = []; rest = bs; whole = ap (λ (k : ℕ). k ∷ bs) (eqb-true b quote t); all = tt; at = let same : n ≡ m = cc in omega (arith, same) }
     first false t h rest = second (is_quoted_byte quote b) refl h rest
 
+-- a byte between quotes is no such quote
 pub no_quote : (quote b : ℕ) → is_quoted_byte quote b ≡ true → (b == quote) ≡ false
 no_quote quote b e = grind (arith, nat_tests)
 
+-- a quote is found where it stands
 pub quote_back : (quote n : ℕ) (own rest : List ℕ) → AllPassing (is_quoted_byte quote) own → quote_at quote n (own ++ quote ∷ rest) ≡ Some (n + length own)
 quote_back quote n [] rest all =
     ap (λ (d : Bool). cond d (Some n) (cond (is_quoted_byte quote quote) (quote_at quote (n + 1) rest) None)) (eq-eqb quote quote refl)
@@ -96,21 +104,26 @@ quote_back quote n (b ∷ bs) rest all =
     ∙ quote_back quote (n + 1) bs rest all.1
     ∙ ap (λ (k : ℕ). Some k) more
 
+-- two parts
 abbrev pub some_pair : List ℕ → List ℕ → Option Pair
 some_pair front back = Some (front, back)
 
+-- a front that passes, and the rest
 pub record Split (p : ℕ → Bool) (text : List ℕ) (parts : Pair) : Type 0 where
   pub all : AllPassing p parts.0
   pub some : 1 ≤ length parts.0
   pub whole : text ≡ parts.0 ++ parts.1
 
+-- a quoted front, and the rest
 pub record QuoteSplit (quote : ℕ) (text : List ℕ) (parts : Pair) : Type 0 where
   pub all : AllPassing (is_quoted_byte quote) parts.0
   pub whole : text ≡ parts.0 ++ quote ∷ parts.1
 
+-- what follows an element, one further
 pub next : (xs ys : List ℕ) (b : ℕ) → drop (length xs + 1) (xs ++ b ∷ ys) ≡ ys
 next xs ys b = let e : length xs + 1 ≡ suc (length xs) = omega arith in ap (λ (k : ℕ). drop k (xs ++ b ∷ ys)) e ∙ drop_mid xs ys b
 
+-- a split at a quote
 pub quote_split : (quote : ℕ) (text : List ℕ) (parts : Pair) → split_quote text (quote_at quote 0 text) ≡ Some parts → QuoteSplit quote text parts
 quote_split quote text parts h = by (quote_at quote 0 text) refl h
   where
@@ -126,6 +139,7 @@ quote_split quote text parts h = by (quote_at quote 0 text) refl h
         subst (QuoteSplit quote text) same
         (record { all = subst (AllPassing (is_quoted_byte quote)) (sym front) found.all; whole = found.whole ∙ ap (λ (l : List ℕ). l ++ quote ∷ found.rest) (sym front) ∙ ap (λ (l : List ℕ). take m text ++ quote ∷ l) (sym back) })
 
+-- a split at a quote is read back
 pub quote_again : (quote : ℕ) (own rest : List ℕ) → AllPassing (is_quoted_byte quote) own → split_quote (own ++ quote ∷ rest) (quote_at quote 0 (own ++ quote ∷ rest)) ≡ Some (own, rest)
 quote_again quote own rest all =
     let text = own ++ quote ∷ rest in
@@ -147,6 +161,7 @@ front_split p (b ∷ bs) = by (p b) refl (front_split p bs)
         ((e, rest.0), ap (λ (l : List ℕ). b ∷ l) rest.1)
     by false e rest = (tt, refl)
 
+-- the front is within the text
 pub front_len : (p : ℕ → Bool) (text : List ℕ) → prefix_len p text ≤ length text
 front_len p [] = omega arith
 front_len p (b ∷ bs) = by (p b) (front_len p bs)
@@ -155,17 +170,21 @@ front_len p (b ∷ bs) = by (p b) (front_len p bs)
     by true h = omega arith
     by false h = omega arith
 
+-- the length of a front
 pub length_front : (n : ℕ) (text : List ℕ) → n ≤ length text → length (take n text) ≡ n
 length_front zero text h = refl
 length_front (suc n) [] h = absurd (omega arith)
 length_front (suc n) (b ∷ bs) h = let rest = length_front n bs (omega arith) in omega arith
 
+-- a number that is not 0
 pub not_zero : (n : ℕ) → (n == 0) ≡ false → 1 ≤ n
 not_zero n e = grind (arith, nat_tests)
 
+-- a number of 1 or more is not 0
 pub is_not_zero : (n : ℕ) → 1 ≤ n → (n == 0) ≡ false
 is_not_zero n h = grind (arith, nat_tests)
 
+-- a split of a front that is not empty
 pub some_split : (p : ℕ → Bool) (text : List ℕ) (parts : Pair) → split_some (prefix_len p text) text ≡ Some parts → Split p text parts
 some_split p text parts = by (prefix_len p text == 0) refl
   where
@@ -180,6 +199,7 @@ some_split p text parts = by (prefix_len p text == 0) refl
         subst (Split p text) same
         (record { all = front.0; some = omega (arith, length_front (prefix_len p text) text (front_len p text), not_zero (prefix_len p text) e); whole = front.1 })
 
+-- the longest front is read back
 pub front_back : (p : ℕ → Bool) (own rest : List ℕ) → AllPassing p own → BeginsWithout p rest → prefix_len p (own ++ rest) ≡ length own
 front_back p [] [] all h = refl
 front_back p [] (b ∷ bs) all h = ap (λ (d : Bool). cond d (1 + prefix_len p bs) 0) h
@@ -187,10 +207,12 @@ front_back p (b ∷ bs) rest all h =
     let more = front_back p bs rest all.1 h in
     ap (λ (d : Bool). cond d (1 + prefix_len p (bs ++ rest)) 0) all.0 ∙ omega (arith, more)
 
+-- what follows a front
 pub drop_front : (xs ys : List ℕ) → drop (length xs) (xs ++ ys) ≡ ys
 drop_front [] ys = refl
 drop_front (x ∷ xs) ys = drop_front xs ys
 
+-- a split of a front is read back
 pub some_again : (p : ℕ → Bool) (own rest : List ℕ) → AllPassing p own → 1 ≤ length own → BeginsWithout p rest → split_some (prefix_len p (own ++ rest)) (own ++ rest) ≡ Some (own, rest)
 some_again p own rest all some h =
     let text = own ++ rest in
@@ -206,6 +228,7 @@ pub record KeyRead (text : List ℕ) (parts : Pair) : Type 0 where
   pub own : parts.0 ≡ word_bytes word
   pub whole : text ≡ word_text word ++ parts.1
 
+-- a key that is read has its form
 pub key_read : (text : List ℕ) (parts : Pair) → key_in text ≡ Some parts → KeyRead text parts
 key_read [] parts h = absurd cc
 key_read (b ∷ bs) parts h = by (is_quote b) refl h
@@ -218,9 +241,11 @@ key_read (b ∷ bs) parts h = by (is_quote b) refl h
         let split = some_split is_key_byte (b ∷ bs) parts h in
         record { word = Word.plain parts.0; form = (split.some, split.all); own = refl; whole = split.whole }
 
+-- a byte of a key is no quote
 pub key_no_quote : (b : ℕ) → is_key_byte b ≡ true → is_quote b ≡ false
 key_no_quote b e = grind (arith, nat_tests)
 
+-- a key is read back
 pub key_again : (word : Word) (rest : List ℕ) → IsKey word → BeginsWithout is_key_byte rest → key_in (word_text word ++ rest) ≡ Some (word_bytes word, rest)
 key_again (Word.plain []) rest form h = absurd (omega (arith, form.0))
 key_again (Word.plain (b ∷ bs)) rest form h =
@@ -239,10 +264,12 @@ pub record ValueRead (text : List ℕ) (parts : Pair) : Type 0 where
   pub own : parts.0 ≡ word_bytes word
   pub whole : text ≡ word_text word ++ parts.1
 
+-- the first byte of a value
 pub begins_value : (b : ℕ) (bs own rest : List ℕ) → b ∷ bs ≡ own ++ rest → 1 ≤ length own → is_indicator b ≡ false → BeginsValue own
 begins_value b bs [] rest e some h = absurd (omega arith)
 begins_value b bs (c ∷ cs) rest e some h = let same : b ≡ c = cc in subst (λ (k : ℕ). is_indicator k ≡ false) same h
 
+-- a value that is read has its form
 pub value_read : (text : List ℕ) (parts : Pair) → value_in text ≡ Some parts → ValueRead text parts
 value_read [] parts h = absurd cc
 value_read (b ∷ bs) parts h = first (is_quote b) refl h
@@ -262,9 +289,11 @@ value_read (b ∷ bs) parts h = first (is_quote b) refl h
         record { word = Word.quoted b parts.0; form = (e, split.all); own = refl; whole = ap (λ (l : List ℕ). b ∷ l) (split.whole ∙ sym (append_assoc parts.0 (b ∷ []) parts.1)) }
     first false e h = second (is_indicator b) refl h
 
+-- a quote is an indicator
 pub value_no_quote : (b : ℕ) → is_indicator b ≡ false → is_quote b ≡ false
 value_no_quote b e = grind (arith, nat_tests)
 
+-- a value is read back
 pub value_again : (word : Word) (rest : List ℕ) → IsValue word → BeginsWithout is_value_byte rest → value_in (word_text word ++ rest) ≡ Some (word_bytes word, rest)
 value_again (Word.plain []) rest form h = absurd form.0
 value_again (Word.plain (b ∷ bs)) rest form h =

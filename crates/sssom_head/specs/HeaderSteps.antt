@@ -14,7 +14,7 @@ use Rattle.sssom_head.specs.Entries.{is_quote, is_quoted_byte, is_key_byte, is_i
 abbrev pub Pair : Type 0
 Pair = List ℕ × List ℕ
 
--- a front of this length and what stands behind it, where the front is not empty
+-- a front of this length and what stands after it, where the front is not empty
 abbrev pub split_some : ℕ → List ℕ → Option Pair
 split_some n text = if n == 0 then None else Some (take n text, drop n text)
 
@@ -27,7 +27,7 @@ abbrev pub split_quote : List ℕ → Option ℕ → Option Pair
 split_quote text None = None
 split_quote text (Some n) = Some (take n text, drop (n + 1) text)
 
--- a key or a value at the front, and what stands behind it
+-- a key or a value at the front, and what stands after it
 abbrev pub key_in : List ℕ → Option Pair
 key_in [] = None
 key_in (b ∷ bs) = if is_quote b then split_quote bs (quote_at b 0 bs) else split_some (prefix_len is_key_byte (b ∷ bs)) (b ∷ bs)
@@ -42,12 +42,12 @@ abbrev pub behind_some_spaces : List ℕ → Option (List ℕ)
 behind_some_spaces [] = None
 behind_some_spaces (b ∷ bs) = if b == 32 then Some (behind_spaces bs) else None
 
--- what stands behind a colon and one space or more
+-- what stands after a colon and one space or more
 abbrev pub behind_colon : List ℕ → Option (List ℕ)
 behind_colon [] = None
 behind_colon (b ∷ bs) = if b == 58 then behind_some_spaces bs else None
 
--- nothing, or a comment behind one space or more
+-- nothing, or a comment after one space or more
 abbrev pub ends_entry : List ℕ → Bool
 ends_entry [] = true
 ends_entry (b ∷ bs) = b == 32 && begins_with_hash (behind_spaces bs)

@@ -1,4 +1,4 @@
--- A header as its lines say it: where its map stands, which lines are entries, and which line is at fault. Each list
+-- A header as its lines say it: where its map stands, which lines are entries, and which line is wrong. Each list
 -- holds the contents of lines.
 use Rattle.std.specs.Prelude.{◌≡◌, ◌≢◌, ◌≤◌, ◌<◌, ◌⊎◌, ℕ, ◌+◌, true, false, if◌then◌else◌, List, [], ◌∷◌, ◌++◌, length, Option, Some, None, Ok, Err, IsSomeAnd, ⊤}
 use Rattle.std.specs.List.{AllByRecursion}
@@ -47,7 +47,7 @@ AreConsistent pairs = AllByRecursion (λ pair. iri_of pairs pair.0 ≡ Some pair
 abbrev pub map_of : Prefixes → Prefixes
 map_of pairs = with_all [] pairs
 
--- lines without a map, the first line of one, with nothing behind its colon, and since then blank lines and entries
+-- lines without a map, the first line of one, with nothing after its colon, and since then blank lines and entries
 pub record IsInside (lines : List (List ℕ)) (map : ℕ) (entries : Option ℕ) (pairs : Prefixes) : Type 0 where
   pub before : List (List ℕ)
   pub own : List ℕ
@@ -89,7 +89,7 @@ pub record HasEndedMap (lines : List (List ℕ)) (pairs : Prefixes) : Type 0 whe
   pub shallow : indentation last ≤ map
   pub no_other : BeginNoMap (last ∷ after)
 
--- no line is at fault, the map has these keys and values, and this is where the lines lead
+-- no line is wrong, the map has these keys and values, and this is where the lines lead
 abbrev pub IsPlace : List (List ℕ) → MapPlace → Prefixes → Type 0
 IsPlace lines Before pairs = BeginNoMap lines × (pairs ≡ [])
 IsPlace lines (Inside map entries) pairs = IsInside lines map entries pairs
@@ -106,7 +106,7 @@ abbrev pub IsUnlike : Option ℕ → List ℕ → Type 0
 IsUnlike None content = ⊥
 IsUnlike (Some n) content = n ≢ indentation content
 
--- no line of a map: a first line with other text behind its colon, a second first line, an entry of another
+-- no line of a map: a first line with other text after its colon, a second first line, an entry of another
 -- indentation or of another form
 abbrev pub IsMapFault : MapPlace → List ℕ → Type 0
 IsMapFault Before content = IsSomeAnd (map_text content) (λ text. (is_empty_list text ≡ false) × (is_empty_map text ≡ false))
@@ -134,7 +134,7 @@ IsFault line place pairs content (MapForm n) = (n ≡ line) × IsMapFault place 
 IsFault line place pairs content (Again n) = (n ≡ line) × IsAgainAt place pairs content
 IsFault line place pairs content OutOfMemory = ⊥
 
--- the lines before this one are without fault, and this one is at fault. Lines are counted from 1
+-- the lines before this one are without fault, and this one is wrong. Lines are counted from 1
 pub record IsFirstFault (lines : List (List ℕ)) (fault : HeadFault) : Type 0 where
   pub before : List (List ℕ)
   pub content : List ℕ
@@ -145,7 +145,7 @@ pub record IsFirstFault (lines : List (List ℕ)) (fault : HeadFault) : Type 0 w
   pub sound : IsPlace before place pairs
   pub at_fault : IsFault (1 + length before) place pairs content fault
 
--- no line is at fault, and the map has these entries
+-- no line is wrong, and the map has these entries
 pub record IsSound (lines : List (List ℕ)) (place : MapPlace) (entries : Prefixes) : Type 0 where
   pub pairs : Prefixes
   pub sound : IsPlace lines place pairs

@@ -20,10 +20,6 @@ head_ran_out _ = false
 abbrev pub IsFaultOf : Answer → HeadFault → Type 0
 IsFaultOf expected fault = OrOutOfMemory head_ran_out (λ found. expected ≡ Err found) fault
 
-abbrev pub IsStep : Answer → Result MapPlace HeadFault → Prefixes → Type 0
-IsStep expected (Ok place) prefixes = expected ≡ at_place place prefixes
-IsStep expected (Err fault) prefixes = IsFaultOf expected fault
-
 -- what the header lines of a text give
 abbrev pub read : List ℕ → Answer
 read bytes = run 1 start (contents_of bytes)
@@ -33,10 +29,6 @@ pub record IsMap (bytes : List ℕ) (length : ℕ) (entries : Prefixes) : Type 0
   pub place : MapPlace
   pub map : read bytes ≡ at_place place entries
   pub counted : length ≡ bytes_in (header_lines bytes)
-
-abbrev pub AreRead : List ℕ → Result ℕ HeadFault → Prefixes → Type 0
-AreRead bytes (Ok len) entries = IsMap bytes len entries
-AreRead bytes (Err fault) entries = IsFaultOf (read bytes) fault
 
 pub record IsHead (bytes : List ℕ) (head : Head) : Type 0 where
   pub entries : Prefixes

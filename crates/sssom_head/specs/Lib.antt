@@ -5,3 +5,4 @@ pub mod HeaderSteps
 pub mod BuiltIn
 pub mod Headers
 pub mod Heads
+pub mod Inside

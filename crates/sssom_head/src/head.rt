@@ -3,7 +3,8 @@
 ghost use Rattle.std.specs.Prelude.{◌≡◌, ◌≤◌, [], length, IfOk, OnOk};
 ghost use Rattle.text_names.specs.Prefixes.{with_prefix};
 ghost use Rattle.sssom_head.specs.BuiltIn.{with_built_in};
-ghost use Rattle.sssom_head.specs.Heads.{AreRead, IsHeadRead, IsHeader};
+ghost use Rattle.sssom_head.specs.Heads.{IsHeadRead, IsHeader};
+ghost use Rattle.sssom_head.specs.Inside.HeadSteps.{AreRead};
 
 use crate::MapPlace;
 use crate::lines::{content_of, split_header_line};

@@ -5,9 +5,9 @@
 pub enum MapPlace {
     /// No map has begun.
     Before,
-    /// In a map whose first line has the indentation `map`, behind entries with the indentation
+    /// In a map whose first line has the indentation `map`, after entries with the indentation
     /// `entries`, if there are any.
     Inside { map: usize, entries: Option<usize> },
-    /// Behind the map.
+    /// After the map.
     Past,
 }

@@ -3,7 +3,7 @@
 ghost use Rattle.std.specs.Prelude.{◌≡◌};
 ghost use Rattle.sssom_head.specs.Contents.{indentation};
 ghost use Rattle.sssom_head.specs.HeaderSteps.{has_indentation, entry_of, with_entry, other_line, map_line, step};
-ghost use Rattle.sssom_head.specs.Heads.{IsStep};
+ghost use Rattle.sssom_head.specs.Inside.HeadSteps.{IsStep};
 ghost use Rattle.text_names.specs.Prefixes.{Prefixes};
 
 use crate::content::{indentation, is_blank, is_empty_map, map_text};
@@ -27,7 +27,7 @@ pub fn take_line(
     }
 }
 
-// A line with which a map may begin, with this text behind the colon.
+// A line with which a map may begin, with this text after the colon.
 fn map_line(line: u64, place: MapPlace, content: &[u8], text: &[u8]) -> Result<MapPlace, HeadFault>
     ensures { (prefixes : Prefixes) →
         IsStep (map_line line place prefixes content.now text.now) result prefixes }

@@ -5,7 +5,7 @@ use std::alloc::Global;
 use std::test::Fail;
 use text_names::PrefixFault;
 
-// What a short name stands for by a header and the table behind it.
+// What a short name stands for by a header and the table after it.
 fn expansion(alloc: Global, bytes: &[u8], short: &str) -> Result<String, Fail> {
     let head = read_head(alloc, bytes)?;
     match head.prefixes.expand(short.as_bytes()) {

@@ -36,26 +36,33 @@ column_within cs = omega (arith, length-drop (length cs - suffix_len (λ c. not 
 
 -- the place of a front stands before that of the front and more characters, while the numbers fit
 module _ (front more : List ℕ) (some : 1 ≤ length more) (fits : length (front ++ more) < 2 ^ 63) where
+  -- line feeds of the later characters add to the line
   lines : line_after (front ++ more) ≡ line_after front + count_by is_line_feed more
   lines = omega (arith, sum_by-append (λ x. cond (is_line_feed x) 1 0) front more)
 
+  -- a line is no greater than the count of characters allows
   lines_within : line_after (front ++ more) ≤ 1 + length (front ++ more)
   lines_within = omega (arith, count_by-le-length is_line_feed (front ++ more))
 
+  -- with a line feed among the later characters the line is greater
   later_line : 1 ≤ count_by is_line_feed more → in_64_bits (line_after front) < in_64_bits (line_after (front ++ more))
   later_line feeds = omega (arith, lines, lines_within)
 
+  -- without one the later characters add to the column
   columns : count_by is_line_feed more ≡ 0 → column_after (front ++ more) ≡ column_after front + length more
   columns none =
       sym (column_back_all (front ++ more)) ∙ past_append 1 front more ∙ past_one_line (column_past 1 front) more none
       ∙ ap (λ (n : ℕ). n + length more) (column_back_all front)
 
+  -- without a line feed the column is greater
   later_column : count_by is_line_feed more ≡ 0 → in_64_bits (column_after front) < in_64_bits (column_after (front ++ more))
   later_column none = omega (arith, columns none, column_within (front ++ more))
 
+  -- and the line is the same
   same_line : count_by is_line_feed more ≡ 0 → in_64_bits (line_after front) ≡ in_64_bits (line_after (front ++ more))
   same_line none = ap in_64_bits (let e : line_after front ≡ line_after (front ++ more) = omega (arith, lines) in e)
 
+  -- so the place of the front stands before
   place_before : (in_64_bits (line_after front) < in_64_bits (line_after (front ++ more)))
       ⊎ ((in_64_bits (line_after front) ≡ in_64_bits (line_after (front ++ more))) × (in_64_bits (column_after front) < in_64_bits (column_after (front ++ more))))
   place_before = ⊎_elim (λ (feeds : 0 < count_by is_line_feed more). inl (later_line (omega arith)))
@@ -77,6 +84,7 @@ some_more bs more front whole some = by (chars more) refl
         let again : bs ++ more ≡ bs = sym (encodes-chars (bs ++ more) whole) ∙ ap encodes same ∙ encodes-chars bs front in
         absurd (omega (arith, ap length again, length-append bs more))
 
+-- the same of bytes, by their characters
 ascends_over : (bs more : List ℕ) → IsUtf8 bs → IsUtf8 (bs ++ more) → 1 ≤ length more → length (bs ++ more) < 2 ^ 63 → IsPlaceBefore (place_after bs) (place_after (bs ++ more))
 ascends_over bs more front whole some fits =
     let split : chars (bs ++ more) ≡ chars bs ++ chars more = chars-append bs more front in
@@ -85,6 +93,7 @@ ascends_over bs more front whole some fits =
     subst (λ (cs : List ℕ). (in_64_bits (line_after (chars bs)) < in_64_bits (line_after cs))
     ⊎ ((in_64_bits (line_after (chars bs)) ≡ in_64_bits (line_after cs)) × (in_64_bits (column_after (chars bs)) < in_64_bits (column_after cs)))) (sym split) before
 
+-- the same of two offsets in a text
 pub ascends : (text : List ℕ) (one other : ℕ) → one < other → other ≤ length text → length text < 2 ^ 63 → IsUtf8 (take one text) → IsUtf8 (take other text) →
     IsPlaceBefore (place_after (take one text)) (place_after (take other text))
 ascends text one other less within fits front whole =

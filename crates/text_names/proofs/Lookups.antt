@@ -19,9 +19,11 @@ abbrev pub seek : ℕ → ℕ → ℕ → List ℕ → List (List ℕ) → Optio
 seek k h d name [] = None
 seek k h d name (n ∷ ns) = cond (hash_of n == h) (cond (d == 0) (cond (bytes_eq name n) (Some k) (seek (k + 1) h 0 name ns)) (seek (k + 1) h (d - 1) name ns)) (seek (k + 1) h d name ns)
 
+-- a name of that hash, with none to pass over, is compared
 pub seek_here : (k h : ℕ) (name n : List ℕ) (ns : List (List ℕ)) → hash_of n ≡ h → seek k h 0 name (n ∷ ns) ≡ cond (bytes_eq name n) (Some k) (seek (k + 1) h 0 name ns)
 seek_here k h name n ns e = let t : (hash_of n == h) ≡ true = grind (arith, nat_tests) in rw t refl
 
+-- a name of that hash is passed over
 pub seek_past : (k h d : ℕ) (name n : List ℕ) (ns : List (List ℕ)) → hash_of n ≡ h → seek k h (d + 1) name (n ∷ ns) ≡ seek (k + 1) h d name ns
 seek_past k h d name n ns e =
     let t : (hash_of n == h) ≡ true = grind (arith, nat_tests) in
@@ -29,6 +31,7 @@ seek_past k h d name n ns e =
     let m : d + 1 - 1 ≡ d = omega arith in
     rw (t, z, m) refl
 
+-- a name of another hash does not count
 pub seek_other : (k h d : ℕ) (name n : List ℕ) (ns : List (List ℕ)) → hash_of n ≢ h → seek k h d name (n ∷ ns) ≡ seek (k + 1) h d name ns
 seek_other k h d name n ns e = let f : (hash_of n == h) ≡ false = grind (arith, nat_tests) in rw f refl
 
@@ -36,9 +39,11 @@ seek_other k h d name n ns e = let f : (hash_of n == h) ≡ false = grind (arith
 pub count_push : (before : List (List ℕ)) (n : List ℕ) (h : ℕ) → count_with_hash (before ++ n ∷ []) h ≡ count_with_hash before h + cond (hash_of n == h) 1 0
 count_push before n h = sum_by_push (λ (other : List ℕ). cond (hash_of other == h) 1 0) before n
 
+-- one more name of that hash
 pub count_same : (before : List (List ℕ)) (n : List ℕ) (h : ℕ) → hash_of n ≡ h → count_with_hash (before ++ n ∷ []) h ≡ count_with_hash before h + 1
 count_same before n h e = let t : cond {A = ℕ} (hash_of n == h) 1 0 ≡ 1 = grind (arith, nat_tests) in count_push before n h ∙ ap (λ (m : ℕ). count_with_hash before h + m) t
 
+-- one more name of another hash
 pub count_other : (before : List (List ℕ)) (n : List ℕ) (h : ℕ) → hash_of n ≢ h → count_with_hash (before ++ n ∷ []) h ≡ count_with_hash before h
 count_other before n h e =
     let t : cond {A = ℕ} (hash_of n == h) 1 0 ≡ 0 = grind (arith, nat_tests) in
@@ -52,17 +57,20 @@ next name (Some k) None later = None
 next name (Some k) (Some n) later = cond (bytes_eq name n) (Some k) later
 
 module _ (t : ℕ × ℕ → Bool) (name : List ℕ) (k : ℕ) (e : (ℕ × ℕ) × List ℕ) (es : List ((ℕ × ℕ) × List ℕ)) (later : Option ℕ) where
+  -- the first entry has the key
   pub found_here : t e.0 ≡ true → next name (position_from t k (keys_of (e ∷ es))) (lookup t (e ∷ es)) later ≡ cond (bytes_eq name e.1) (Some k) later
   found_here there = rw there refl
 
+  -- the first entry has another key
   pub found_later : t e.0 ≡ false → next name (position_from t k (keys_of (e ∷ es))) (lookup t (e ∷ es)) later ≡ next name (position_from t (k + 1) (keys_of es)) (lookup t es) later
   found_later away = rw away refl
 
--- the first key, and those behind it
+-- the first key, and those after it
 pub first_key : (before : List (List ℕ)) (e : (ℕ × ℕ) × List ℕ) (es : List ((ℕ × ℕ) × List ℕ)) → keys_of (e ∷ es) ≡ keys_behind before (values_of (e ∷ es)) →
     (e.0.0 ≡ hash_of e.1) × (e.0.1 ≡ count_with_hash before (hash_of e.1)) × (keys_of es ≡ keys_behind (before ++ e.1 ∷ []) (values_of es))
 first_key before e es keyed = (cc, cc, cc)
 
+-- the key of a name with no more of its hash before it
 pub key_is : (h o : ℕ) (before : List (List ℕ)) (e : (ℕ × ℕ) × List ℕ) → e.0.0 ≡ hash_of e.1 → e.0.1 ≡ count_with_hash before (hash_of e.1) → hash_of e.1 ≡ h → o ≡ count_with_hash before h → is_key h o e.0 ≡ true
 key_is h o before e hash place same at =
     let count : count_with_hash before (hash_of e.1) ≡ count_with_hash before h = ap (count_with_hash before) same in
@@ -70,24 +78,27 @@ key_is h o before e hash place same at =
     let two : o ≡ e.0.1 = at ∙ sym count ∙ sym place in
     grind (arith, nat_tests)
 
+-- a key with a greater count is not that of this name
 pub key_is_later : (h o d : ℕ) (before : List (List ℕ)) (e : (ℕ × ℕ) × List ℕ) → e.0.1 ≡ count_with_hash before (hash_of e.1) → hash_of e.1 ≡ h → o ≡ count_with_hash before h + suc d → is_key h o e.0 ≡ false
 key_is_later h o d before e place same at =
     let count : count_with_hash before (hash_of e.1) ≡ count_with_hash before h = ap (count_with_hash before) same in
     let two : e.0.1 < o = omega (arith, count, place, at) in
     grind (arith, nat_tests)
 
+-- nor is a key of another hash
 pub key_is_other : (h o : ℕ) (e : (ℕ × ℕ) × List ℕ) → e.0.0 ≡ hash_of e.1 → hash_of e.1 ≢ h → is_key h o e.0 ≡ false
 key_is_other h o e hash other =
     let one : h ≢ e.0.0 = λ same. other (sym hash ∙ sym same) in
     grind (arith, nat_tests)
 
--- a look-up behind k entries, and what it tells of the search there
+-- a look-up after k entries, and what it tells of the search there
 abbrev pub answer : (h o : ℕ) (name : List ℕ) (k : ℕ) → List ((ℕ × ℕ) × List ℕ) → Option ℕ → Option ℕ
 answer h o name k es later = next name (position_from (is_key h o) k (keys_of es)) (lookup (is_key h o) es) later
 
 module _ (h o : ℕ) (name : List ℕ) (k : ℕ) (before : List (List ℕ)) (e : (ℕ × ℕ) × List ℕ) (es : List ((ℕ × ℕ) × List ℕ))
     (hash : e.0.0 ≡ hash_of e.1) (place : e.0.1 ≡ count_with_hash before (hash_of e.1))
     (rest : (c : ℕ) → o ≡ count_with_hash (before ++ e.1 ∷ []) h + c → seek (k + 1) h c name (values_of es) ≡ answer h o name (k + 1) es (seek (k + 1) h (c + 1) name (values_of es))) where
+  -- a look-up past a name of that hash
   pub step_same : (d : ℕ) → hash_of e.1 ≡ h → o ≡ count_with_hash before h + d → seek k h d name (values_of (e ∷ es)) ≡ answer h o name k (e ∷ es) (seek k h (d + 1) name (values_of (e ∷ es)))
   step_same zero same at =
       let found = found_here (is_key h o) name k e es (seek k h (0 + 1) name (values_of (e ∷ es))) (key_is h o before e hash place same (let z : o ≡ count_with_hash before h = omega arith in z)) in
@@ -100,12 +111,14 @@ module _ (h o : ℕ) (name : List ℕ) (k : ℕ) (before : List (List ℕ)) (e :
       let past_two : seek k h (suc d + 1) name (values_of (e ∷ es)) ≡ seek (k + 1) h (d + 1) name (values_of es) = seek_past k h (suc d) name e.1 (values_of es) same ∙ ap (λ (m : ℕ). seek (k + 1) h m name (values_of es)) one in
       past ∙ rest d more ∙ ap (answer h o name (k + 1) es) (sym past_two) ∙ sym later
 
+  -- a look-up past a name of another hash
   pub step_other : (d : ℕ) → hash_of e.1 ≢ h → o ≡ count_with_hash before h + d → seek k h d name (values_of (e ∷ es)) ≡ answer h o name k (e ∷ es) (seek k h (d + 1) name (values_of (e ∷ es)))
   step_other d other at =
       let later = found_later (is_key h o) name k e es (seek k h (d + 1) name (values_of (e ∷ es))) (key_is_other h o e hash other) in
       let more : o ≡ count_with_hash (before ++ e.1 ∷ []) h + d = omega (arith, count_other before e.1 h other) in
       seek_other k h d name e.1 (values_of es) other ∙ rest d more ∙ ap (answer h o name (k + 1) es) (sym (seek_other k h (d + 1) name e.1 (values_of es) other)) ∙ sym later
 
+-- one look-up goes one step on with the search
 pub seek_step : (h o : ℕ) (name : List ℕ) (k d : ℕ) (before : List (List ℕ)) (es : List ((ℕ × ℕ) × List ℕ)) → keys_of es ≡ keys_behind before (values_of es) → o ≡ count_with_hash before h + d →
     seek k h d name (values_of es) ≡ answer h o name k es (seek k h (d + 1) name (values_of es))
 seek_step h o name k d before [] keyed at = refl
@@ -122,6 +135,7 @@ module _ (h o total : ℕ) (before : List (List ℕ)) (e : (ℕ × ℕ) × List 
     (hash : e.0.0 ≡ hash_of e.1) (place : e.0.1 ≡ count_with_hash before (hash_of e.1))
     (all : total ≡ count_with_hash before h + count_with_hash (e.1 ∷ values_of es) h)
     (rest : count_with_hash (before ++ e.1 ∷ []) h ≤ o → total ≡ count_with_hash (before ++ e.1 ∷ []) h + count_with_hash (values_of es) h → is_some (lookup (is_key h o) es) ≡ nat_lt o total) where
+  -- whether a key is there, past a name of its hash
   pub there_same : (d : ℕ) → hash_of e.1 ≡ h → o ≡ count_with_hash before h + d → is_some (lookup (is_key h o) (e ∷ es)) ≡ nat_lt o total
   there_same zero same at =
       let t : cond {A = ℕ} (hash_of e.1 == h) 1 0 ≡ 1 = grind (arith, nat_tests) in
@@ -135,6 +149,7 @@ module _ (h o total : ℕ) (before : List (List ℕ)) (e : (ℕ × ℕ) × List 
       let sum : total ≡ count_with_hash (before ++ e.1 ∷ []) h + count_with_hash (values_of es) h = omega (arith, more, count_first e.1 (values_of es) h, t) in
       rw (key_is_later h o d before e place same at) (rest low sum)
 
+  -- whether a key is there, past a name of another hash
   pub there_other : hash_of e.1 ≢ h → count_with_hash before h ≤ o → is_some (lookup (is_key h o) (e ∷ es)) ≡ nat_lt o total
   there_other other at =
       let t : cond {A = ℕ} (hash_of e.1 == h) 1 0 ≡ 0 = grind (arith, nat_tests) in
@@ -143,6 +158,7 @@ module _ (h o total : ℕ) (before : List (List ℕ)) (e : (ℕ × ℕ) × List 
       let sum : total ≡ count_with_hash (before ++ e.1 ∷ []) h + count_with_hash (values_of es) h = omega (arith, more, count_first e.1 (values_of es) h, t) in
       rw (key_is_other h o e hash other) (rest low sum)
 
+-- a key is there if its count is below that of its hash
 pub key_there : (h o total : ℕ) (before : List (List ℕ)) (es : List ((ℕ × ℕ) × List ℕ)) → keys_of es ≡ keys_behind before (values_of es) → count_with_hash before h ≤ o →
     total ≡ count_with_hash before h + count_with_hash (values_of es) h → is_some (lookup (is_key h o) es) ≡ nat_lt o total
 key_there h o total before [] keyed at all = let high : total ≤ o = omega (arith, all) in let test : nat_lt o total ≡ false = grind (arith, nat_tests) in sym test
@@ -162,6 +178,7 @@ differ name n other = by (bytes_eq name n) refl
     by true e = absurd (other (ap hash_of (sym ((bytes_decides name n).0 e))))
     by false e = refl
 
+-- the search for a name is the search among those of its hash
 pub seek_all : (k : ℕ) (name : List ℕ) (names : List (List ℕ)) → position_from (bytes_eq name) k names ≡ seek k (hash_of name) 0 name names
 seek_all k name [] = refl
 seek_all k name (n ∷ ns) =
@@ -173,6 +190,7 @@ seek_all k name (n ∷ ns) =
 -- what one look-up tells, where q is the hash of the name and o names were passed over
 module _ (q o : ℕ) (name : List ℕ) (es : List ((ℕ × ℕ) × List ℕ)) (keyed : keys_of es ≡ keys_behind [] (values_of es)) (hash : q ≡ hash_of name)
     (so_far : seek 0 (hash_of name) o name (values_of es) ≡ number_of (values_of es) name) where
+  -- what a look-up tells of the rest of the search
   pub told : (r : Option ℕ) (v : Option (List ℕ)) → r ≡ position (is_key q o) (keys_of es) → v ≡ lookup (is_key q o) es → number_of (values_of es) name ≡ next name r v (seek 0 (hash_of name) (o + 1) name (values_of es))
   told r v index value =
       let zero_on : o ≡ count_with_hash [] (hash_of name) + o = omega arith in
@@ -182,27 +200,34 @@ module _ (q o : ℕ) (name : List ℕ) (es : List ((ℕ × ℕ) × List ℕ)) (k
       ∙ ap (λ (x : Option ℕ). next name x (lookup (is_key (hash_of name) o) es) (seek 0 (hash_of name) (o + 1) name (values_of es))) at
       ∙ ap (λ (x : Option (List ℕ)). next name r x (seek 0 (hash_of name) (o + 1) name (values_of es))) there
 
+  -- a look-up that gives the name ends the search
   pub found_at : (k : ℕ) (n : List ℕ) → Some k ≡ position (is_key q o) (keys_of es) → Some n ≡ lookup (is_key q o) es → bytes_eq name n ≡ true → number_of (values_of es) name ≡ Some k
   found_at k n index value same = told (Some k) (Some n) index value ∙ (rw same refl)
 
+  -- a look-up that gives another name goes on
   pub passed_at : (k : ℕ) (n : List ℕ) → Some k ≡ position (is_key q o) (keys_of es) → Some n ≡ lookup (is_key q o) es → bytes_eq name n ≡ false → seek 0 (hash_of name) (o + 1) name (values_of es) ≡ number_of (values_of es) name
   passed_at k n index value other = sym (told (Some k) (Some n) index value ∙ (rw other refl))
 
+  -- a look-up that gives nothing ends it without the name
   pub ended_at : None ≡ position (is_key q o) (keys_of es) → number_of (values_of es) name ≡ None
   ended_at index = told None (lookup (is_key q o) es) index refl
 
 -- how many look-ups find a name
 module _ (q o : ℕ) (name : List ℕ) (es : List ((ℕ × ℕ) × List ℕ)) (keyed : keys_of es ≡ keys_behind [] (values_of es)) (hash : q ≡ hash_of name) where
+  -- the same, from the first name on
   pub counted : (v : Option (List ℕ)) → v ≡ lookup (is_key q o) es → is_some v ≡ nat_lt o (count_with_hash (values_of es) (hash_of name))
   counted v value =
       let total : count_with_hash (values_of es) (hash_of name) ≡ count_with_hash [] (hash_of name) + count_with_hash (values_of es) (hash_of name) = omega arith in
       ap is_some value ∙ ap (λ (h : ℕ). is_some (lookup (is_key h o) es)) hash ∙ key_there (hash_of name) o (count_with_hash (values_of es) (hash_of name)) [] es keyed (omega arith) total
 
+  -- a count whose key is there is below the count of the hash
   pub below : (n : List ℕ) → Some n ≡ lookup (is_key q o) es → o < count_with_hash (values_of es) (hash_of name)
   below n value = let t : true ≡ nat_lt o (count_with_hash (values_of es) (hash_of name)) = counted (Some n) value in grind (arith, nat_tests)
 
+  -- a count whose key is not there is not
   pub beyond : None ≡ lookup (is_key q o) es → count_with_hash (values_of es) (hash_of name) ≤ o
   beyond value = let t : false ≡ nat_lt o (count_with_hash (values_of es) (hash_of name)) = counted None value in grind (arith, nat_tests)
 
+-- the search begins with no name passed over
 pub seek_start : (name : List ℕ) (names : List (List ℕ)) → seek 0 (hash_of name) 0 name names ≡ number_of names name
 seek_start name names = sym (seek_all 0 name names) ∙ sym (position_from-zero (bytes_eq name) names)

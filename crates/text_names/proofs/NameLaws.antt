@@ -16,7 +16,7 @@ use Rattle.indexmap.proofs.CallerLemmas.{insert_entry-new}
 use Rattle.text_names.specs.Inside.NameKeys.{hash_of, count_with_hash, key_behind, keys_behind, IsKept}
 use Rattle.text_names.proofs.Lookups.{is_key, counted}
 
--- one more name behind the others
+-- one more name after the others
 pub absent_at : (q o : ℕ) (name : List ℕ) (es : List ((ℕ × ℕ) × List ℕ)) → keys_of es ≡ keys_behind [] (values_of es) → q ≡ hash_of name → o ≡ count_with_hash (values_of es) (hash_of name) → lookup (is_key q o) es ≡ None
 absent_at q o name es keyed hash all =
     let t : nat_lt o (count_with_hash (values_of es) (hash_of name)) ≡ false = grind (arith, nat_tests) in
@@ -26,12 +26,14 @@ absent_at q o name es keyed hash all =
     none_from None h = refl
     none_from (Some n) h = cc
 
+-- the keys of one more name
 pub keys_push : (before names : List (List ℕ)) (n : List ℕ) → keys_behind before (names ++ n ∷ []) ≡ keys_behind before names ++ key_behind (before ++ names) n ∷ []
 keys_push before [] n = rw append-nil refl
 keys_push before (m ∷ names) n =
     ap (λ (l : List (ℕ × ℕ)). key_behind before m ∷ l) (keys_push (before ++ m ∷ []) names n)
     ∙ ap (λ (l : List (List ℕ)). key_behind before m ∷ (keys_behind (before ++ m ∷ []) names ++ key_behind l n ∷ [])) (append_assoc before (m ∷ []) names)
 
+-- entries stay under their keys
 keyed_push : (es new : List ((ℕ × ℕ) × List ℕ)) (key : ℕ × ℕ) (n : List ℕ) → keys_of es ≡ keys_behind [] (values_of es) → new ≡ es ++ (key, n) ∷ [] → key ≡ key_behind (values_of es) n →
     keys_of new ≡ keys_behind [] (values_of new)
 keyed_push es new key n keyed more new_key =
@@ -39,6 +41,7 @@ keyed_push es new key n keyed more new_key =
     ∙ ap (λ (l : List (ℕ × ℕ)). l ++ key ∷ []) keyed ∙ ap (λ (k : ℕ × ℕ). keys_behind [] (values_of es) ++ k ∷ []) new_key
     ∙ sym (keys_push [] (values_of es) n) ∙ ap (keys_behind []) (sym (ap values_of more ∙ map_push (λ (e : (ℕ × ℕ) × List ℕ). e.1) es (key, n)))
 
+-- the place of an element, with one more at the end
 position_push : (t : List ℕ → Bool) (k : ℕ) (names : List (List ℕ)) (n : List ℕ) → position_from t k (names ++ n ∷ []) ≡ option_or (position_from t k names) (cond (t n) (Some (k + length names)) None)
 position_push t k [] n = ap (λ (i : ℕ). cond (t n) (Some i) None) (let z : k ≡ k + 0 = omega arith in z)
 position_push t k (m ∷ names) n = by (t m) refl (position_push t (k + 1) names n)
@@ -48,6 +51,7 @@ position_push t k (m ∷ names) n = by (t m) refl (position_push t (k + 1) names
     by true e rest = rw e refl
     by false e rest = rw e (rest ∙ ap (λ (i : ℕ). option_or (position_from t (k + 1) names) (cond (t n) (Some i) None)) (let z : k + 1 + length names ≡ k + suc (length names) = omega arith in z))
 
+-- the number of a name, with one more name at the end
 pub number_push : (names : List (List ℕ)) (n name : List ℕ) → number_of (names ++ n ∷ []) name ≡ option_or (number_of names name) (cond (bytes_eq name n) (Some (length names)) None)
 number_push names n name =
     position_from-zero (bytes_eq name) (names ++ n ∷ []) ∙ position_push (bytes_eq name) 0 names n
@@ -61,6 +65,7 @@ place_push [] n name (suc k) at = cc
 place_push (m ∷ names) n name zero at = inl at
 place_push (m ∷ names) n name (suc k) at = ⊎_elim inl (λ last. inr (ap suc last.0, last.1)) (place_push names n name k at)
 
+-- names stay distinct with a new one
 pub distinct_push : (names : List (List ℕ)) (n : List ℕ) → AreDistinct names → number_of names n ≡ None → AreDistinct (names ++ n ∷ [])
 distinct_push names n distinct new = λ k name at.
     ⊎_elim
@@ -71,9 +76,11 @@ distinct_push names n distinct new = λ k name at.
     ∙ ap (λ (i : ℕ). Some i) (sym last.0))
     (place_push names n name k at)
 
+-- the name of an entry
 pub name_at : (es : List ((ℕ × ℕ) × List ℕ)) (i : ℕ) (key : ℕ × ℕ) (n : List ℕ) → Some (key, n) ≡ slice_get es i → slice_get (values_of es) i ≡ Some n
 name_at es i key n at = slice_get-map (λ (e : (ℕ × ℕ) × List ℕ). e.1) es i ∙ ap (λ (o : Option ((ℕ × ℕ) × List ℕ)). option_map (λ e. e.1) o) (sym at)
 
+-- a name that is not held has the next number
 pub next_number : (names : List (List ℕ)) (name : List ℕ) → number_of names name ≡ None → length names ≡ number_or_next names name
 next_number names name missing = by (nat_lt (number_or_next names name) (length names)) refl
   where
@@ -91,9 +98,11 @@ grown m new key text name keyed inserted same new_key =
     inserted ∙ insert_entry-new (λ (a b : ℕ × ℕ). is_key a.0 a.1 b) m key text (absent_at key.0 key.1 name m.entries keyed (ap (λ (k : ℕ × ℕ). k.0) new_key) (ap (λ (k : ℕ × ℕ). k.1) new_key))
     ∙ ap (λ (n : List ℕ). m.entries ++ (key, n) ∷ []) same
 
+-- the names after one more entry
 pub values_grown : (es new : List ((ℕ × ℕ) × List ℕ)) (key : ℕ × ℕ) (n : List ℕ) → new ≡ es ++ (key, n) ∷ [] → values_of new ≡ values_of es ++ n ∷ []
 values_grown es new key n more = rw (more, map_push) refl
 
+-- a table is kept as before, with one more name
 pub kept_push : (es new : List ((ℕ × ℕ) × List ℕ)) (key : ℕ × ℕ) (most : ℕ) (n : List ℕ) → IsKept (keys_of es) (values_of es) most → new ≡ es ++ (key, n) ∷ [] → key ≡ key_behind (values_of es) n →
     number_of (values_of es) n ≡ None → length (values_of es) < most → IsKept (keys_of new) (values_of new) most
 kept_push es new key most n kept more new_key absent room =

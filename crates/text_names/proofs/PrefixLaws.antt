@@ -9,10 +9,12 @@ use Rattle.std.specs.Cmp.Lexicographic.{bytes_decides}
 use Rattle.std.proofs.lemmas.List.{map_push}
 use Rattle.text_names.specs.Inside.Entries.{by_bytes}
 
+-- a look-up by the bytes of keys
 pub lookup_by_bytes : {K X : Type 0} (bytes : K → List ℕ) (test : List ℕ → Bool) (es : List (K × X)) → lookup test (by_bytes bytes es) ≡ lookup (λ k. test (bytes k)) es
 lookup_by_bytes bytes test [] = refl
 lookup_by_bytes {K} {X} bytes test (e ∷ es) = ap (λ (o : Option X). cond (test (bytes e.0)) (Some e.1) o) (lookup_by_bytes bytes test es)
 
+-- one more entry
 pub by_bytes_push : {K X : Type 0} (bytes : K → List ℕ) (es new : List (K × X)) (k : K) (x y : X) (name : List ℕ) → new ≡ es ++ (k, x) ∷ [] → bytes k ≡ name → x ≡ y →
     by_bytes bytes new ≡ by_bytes bytes es ++ (name, y) ∷ []
 by_bytes_push {K} {X} bytes es new k x y name e b v = rw (e, map_push, b, v) refl
@@ -21,9 +23,11 @@ by_bytes_push {K} {X} bytes es new k x y name e b v = rw (e, map_push, b, v) ref
 at_step : (p : ℕ → Bool) (x : ℕ) (xs : List ℕ) → p x ≡ false → position_or_len p (x ∷ xs) ≡ 1 + position_or_len p xs
 at_step p x xs e = rw e refl
 
+-- the first element passes
 at_head : (p : ℕ → Bool) (x : ℕ) (xs : List ℕ) → p x ≡ true → position_or_len p (x ∷ xs) ≡ 0
 at_head p x xs e = rw e refl
 
+-- a place within the list has an element that passes
 pub any_at : (p : ℕ → Bool) (xs : List ℕ) → position_or_len p xs < length xs → list_any p xs ≡ true
 any_at p [] h = absurd (omega arith)
 any_at p (x ∷ xs) h = by (p x) refl (any_at p xs)
@@ -32,6 +36,7 @@ any_at p (x ∷ xs) h = by (p x) refl (any_at p xs)
     by true e rest = rw e refl
     by false e rest = rw e (rest (omega (arith, at_step p x xs e)))
 
+-- with no such place no element passes
 pub none_at : (p : ℕ → Bool) (xs : List ℕ) → position_or_len p xs ≡ length xs → list_any p xs ≡ false
 none_at p [] h = refl
 none_at p (x ∷ xs) h = by (p x) refl (none_at p xs)

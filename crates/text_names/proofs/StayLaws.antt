@@ -23,6 +23,7 @@ number_there names name held = by (nat_lt (number_or_next names name) (length na
     by true e = rw e refl
     by false e = let none : is_held names name ≡ false = rw e refl in cc
 
+-- a name that is not held has no number
 pub no_number : (names : List (List ℕ)) (name : List ℕ) → is_held names name ≡ false → number_of names name ≡ None
 no_number names name missing = by (number_of names name) missing
   where
@@ -38,6 +39,7 @@ number_added names name missing =
     ∙ ap (λ (b : Bool). cond b (Some (length names)) None) ((bytes_decides name name).1 refl)
     ∙ ap (λ (k : ℕ). Some k) (next_number names name missing)
 
+-- a name that was added keeps its number
 pub added_stays : (names later : List (List ℕ)) (name : List ℕ) → number_of (with_name names name ++ later) name ≡ Some (number_or_next names name)
 added_stays names later name = by (is_held names name) refl
   where
@@ -51,9 +53,11 @@ next_is names name number there =
     let held : is_held names name ≡ true = ap is_some there in
     let both : Some (number_or_next names name) ≡ Some number = sym (number_there names name held) ∙ there in cc
 
+-- the same of the number that it has or gets
 pub next_stays : (names later : List (List ℕ)) (name : List ℕ) → number_or_next (with_name names name ++ later) name ≡ number_or_next names name
 next_stays names later name = next_is (with_name names name ++ later) name (number_or_next names name) (added_stays names later name)
 
+-- a name that is held keeps its number when another is added
 pub held_by_more : (names : List (List ℕ)) (other name : List ℕ) (number : ℕ) → number_of names name ≡ Some number → number_of (with_name names other) name ≡ Some number
 held_by_more names other name number held = by (is_held names other)
   where
@@ -61,6 +65,7 @@ held_by_more names other name number held = by (is_held names other)
     by true = held
     by false = held_stays names (other ∷ []) name number held
 
+-- names stay distinct when one is added
 pub distinct_more : (names : List (List ℕ)) (name : List ℕ) → AreDistinct names → AreDistinct (with_name names name)
 distinct_more names name distinct = by (is_held names name) refl
   where

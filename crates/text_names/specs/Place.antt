@@ -9,15 +9,15 @@ use Rattle.text_names.specs.declared.place.Place.{Place}
 abbrev pub in_64_bits : ℕ → ℕ
 in_64_bits n = min n (2 ^ 64 - 1)
 
--- the line behind these characters: one more than the line feeds among them
+-- the line after these characters: one more than the line feeds among them
 abbrev pub line_after : List ℕ → ℕ
 line_after cs = 1 + count_by is_line_feed cs
 
--- the column behind these characters: one more than those since the last line feed
+-- the column after these characters: one more than those since the last line feed
 abbrev pub column_after : List ℕ → ℕ
 column_after cs = 1 + length (after_last is_line_feed cs)
 
--- the place behind the bytes of a text, counted in its characters
+-- the place after the bytes of a text, counted in its characters
 abbrev pub place_after : List ℕ → Place
 place_after bytes = record { line = in_64_bits (line_after (chars bytes)); column = in_64_bits (column_after (chars bytes)) }
 

@@ -57,7 +57,7 @@ impl Bytes {
         self.bytes.len()
     }
 
-    /// Puts more bytes at the end; for want of memory nothing changes.
+    /// Puts more bytes at the end; if memory runs out, nothing changes.
     pub fn append(&mut self, more: &[u8]) -> Result<(), AllocError>
         ensures ok { OnOk result (self.new ≡ self.old ++ more.now) }
         ensures err { OnErr result (self.new ≡ self.old) }

@@ -1,4 +1,4 @@
-//! Texts and bytes, which contracts see as lists of bytes, and what is built of them alone: places,
+//! Texts and bytes, which contracts see as lists of bytes, and what is built of only these: places,
 //! prefixes, numbered names, and the limits of the input.
 #![tactic(auto)]
 

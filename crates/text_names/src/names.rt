@@ -127,7 +127,7 @@ impl NameTable {
         Err((hash, clashes))
     }
 
-    // Puts a new name behind the others.
+    // Puts a new name after the others.
     fn add(&mut self, key: (u64, u32), name: &[u8]) -> Result<(), AllocError>
         requires text { IsUtf8 name.now }
         requires new { number_of self.old.names name.now ≡ None }

@@ -3,7 +3,7 @@ use Rattle.std.specs.Prelude.{◌≡◌, ◌≢◌, ◌≤◌, ◌⊎◌, ℕ, �
 use Rattle.rank_order.specs.Decimal.{digits_value, raised_by, lowered_by}
 use Rattle.rank_order.specs.declared.number.Number.{Number}
 
--- the number with `up` zeros behind it is `units` with `down` zeros, and these are 10 ^ 36 at most
+-- the number with `up` zeros after it is `units` with `down` zeros, and these are 10 ^ 36 at most
 pub record IsScaled (number up down units : ℕ) : Type 0 where
   pub same : units * 10 ^ down ≡ number * 10 ^ up
   pub most : units ≤ 10 ^ 36
@@ -24,17 +24,17 @@ pub record IsShort (n : Number) : Type 0 where
 abbrev pub joined_number : List ℕ → List ℕ → ℕ
 joined_number whole fraction = digits_value whole * 10 ^ length fraction + digits_value fraction
 
--- the zeros that units and an exponent put behind a number, and those that places behind the point and an exponent take
+-- the zeros that units and an exponent put after a number, and those that places after the point and an exponent take
 abbrev pub up_by : Bool → List ℕ → ℕ
 up_by lowers exponent = 36 + raised_by lowers (digits_value exponent)
 
 abbrev pub down_by : ℕ → Bool → List ℕ → ℕ
 down_by places lowers exponent = places + lowered_by lowers (digits_value exponent)
 
--- the same of a number of which so many digits stand behind the point, and which an exponent follows
+-- the same of a number of which so many digits stand after the point, and which an exponent follows
 abbrev pub IsScaledBy : ℕ → ℕ → Bool → List ℕ → ℕ → Type 0
 IsScaledBy number places lowers exponent units = IsScaled number (up_by lowers exponent) (down_by places lowers exponent) units
 
--- the same of the digits before the point and behind it
+-- the same of the digits before the point and after it
 abbrev pub AreScaledBy : List ℕ → List ℕ → Bool → List ℕ → ℕ → Type 0
 AreScaledBy whole fraction lowers exponent units = IsScaledBy (joined_number whole fraction) (length fraction) lowers exponent units

@@ -10,11 +10,11 @@ hash_of name = finish (write initial name)
 abbrev pub count_with_hash : List (List ℕ) → ℕ → ℕ
 count_with_hash names hash = count_by (λ other. hash_of other == hash) names
 
--- the key of a name behind others
+-- the key of a name after others
 abbrev pub key_behind : List (List ℕ) → List ℕ → ℕ × ℕ
 key_behind before name = (hash_of name, count_with_hash before (hash_of name))
 
--- the keys of names behind others
+-- the keys of names after others
 abbrev pub keys_behind : List (List ℕ) → List (List ℕ) → List (ℕ × ℕ)
 keys_behind before [] = []
 keys_behind before (name ∷ names) = key_behind before name ∷ keys_behind (before ++ name ∷ []) names
