@@ -24,7 +24,7 @@ with_more classes roles axioms more within i model = record {
 }
 
 -- what is listed under a name passes what all lists pass
-listed : {X : Type 0} → (P : X → Type 0) (lists : List (List X)) (k : ℕ) (x : X) → All (All P) lists → Contains (slice_index_or lists k []) x → P x
+pub listed : {X : Type 0} → (P : X → Type 0) (lists : List (List X)) (k : ℕ) (x : X) → All (All P) lists → Contains (slice_index_or lists k []) x → P x
 listed P [] k x all held = absurd (in_none x held)
 listed P (list ∷ lists) zero x all held = All-contains P list x (All-head (All P) list lists all) held
 listed P (list ∷ lists) (suc k) x all held = listed P lists k x (All-tail (All P) list lists all) held

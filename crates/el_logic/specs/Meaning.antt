@@ -50,10 +50,14 @@ abbrev pub AreChained : Interp → List ℕ → ℕ → ℕ → Type 0
 AreChained i [] x y = x ≡ y
 AreChained i (r ∷ chain) x y = (z : ℕ) × AreRelated i r x z × AreChained i chain z y
 
+-- no element belongs to both
+abbrev pub AreDisjoint : Interp → Expr → Expr → Type 0
+AreDisjoint i c d = (x : ℕ) → IsMember i x c → ¬ (IsMember i x d)
+
 -- no element belongs to operands at two positions
 abbrev pub AreApart : Interp → List Expr → Type 0
 AreApart i [] = ⊤
-AreApart i (c ∷ cs) = All (λ d. (x : ℕ) → IsMember i x c → ¬ (IsMember i x d)) cs × AreApart i cs
+AreApart i (c ∷ cs) = All (AreDisjoint i c) cs × AreApart i cs
 
 abbrev pub Holds : Interp → Axiom → Type 0
 Holds i (SubClass c d) = IsWithin i c d

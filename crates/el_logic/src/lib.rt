@@ -1,9 +1,11 @@
 //! Class expressions and axioms of the description logic EL, and what they mean.
 #![tactic(auto)]
 
+mod evaluate;
 mod laws;
 mod types;
 
+pub use evaluate::{holds, is_interpretation, member};
 pub use laws::{
     a_model_with_members_shows_coherence, below_nothing_is_empty, chains_have_their_direction,
     class_axioms_are_told_apart, class_axioms_have_their_direction,
