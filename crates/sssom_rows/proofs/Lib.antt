@@ -1,0 +1,4 @@
+pub mod FieldLaws
+pub mod RecordLaws
+pub mod ReadLaws
+pub mod TableLaws
