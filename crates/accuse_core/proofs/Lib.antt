@@ -1,0 +1,4 @@
+pub mod RankLaws
+pub mod FrontLaws
+pub mod BlockLaws
+pub mod TrackLaws
