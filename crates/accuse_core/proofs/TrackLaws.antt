@@ -29,7 +29,7 @@ removed_stays Kept gone = refl
 removed_stays Removed gone = refl
 
 -- of open marks each is open
-open_at : (ranks rank : ℕ) → mark_at (opening ranks) rank ≡ Open
+pub open_at : (ranks rank : ℕ) → mark_at (opening ranks) rank ≡ Open
 open_at zero rank = refl
 open_at (suc ranks) zero = refl
 open_at (suc ranks) (suc rank) = open_at ranks rank

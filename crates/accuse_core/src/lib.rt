@@ -3,6 +3,7 @@
 
 mod event;
 mod journal;
+mod laws;
 mod machine;
 mod mark;
 mod marks;
@@ -11,5 +12,10 @@ mod marks;
 
 pub use event::{Event, Reply};
 pub use journal::{Entries, Entry};
+pub use laws::{
+    allowed_events_leave_sound_marks, events_leave_the_ranks, journals_grow_by_an_event,
+    kept_ranks_are_the_repair, kept_ranks_have_the_mark, no_rank_waits_at_the_front,
+    removed_ranks_are_accused,
+};
 pub use machine::Core;
 pub use mark::Mark;
