@@ -1,8 +1,8 @@
 -- Blocks of ranks that are kept unless they are removed.
-use Rattle.std.proofs.Common.{◌≡◌, ℕ, zero, suc, ◌+◌, ◌-◌, ◌<◌, ◌≤◌, Bool, true, false, not, cond, ◌⊎◌, ⊎_elim, List, [], ◌∷◌, ◌++◌, map, length, get_or, set, take, drop, refl, ap, sym, subst, ◌∙◌, arith, add-zero, add-one, zero-add}
+use Rattle.std.proofs.Common.{◌≡◌, ℕ, zero, suc, ◌+◌, ◌<◌, ◌≤◌, true, List, [], ◌∷◌, length, set, refl, ap, sym, ◌∙◌, arith, add-one, zero-add}
 use Rattle.accuse_core.specs.declared.mark.Mark.{Mark}
 use Rattle.accuse_core.specs.declared.mark.Mark.TheVariants.{Open, Yes, Kept, Removed}
-use Rattle.accuse_core.specs.Marks.{is_kept, is_removed, is_decided, mark_at, ranks_from, kept_unless_removed, with_first_kept, with_block, block_of, front_of, kept_of}
+use Rattle.accuse_core.specs.Marks.{is_decided, mark_at, kept_unless_removed, with_block}
 
 -- a mark that is put where it is
 pub set_same : (marks : List Mark) (rank : ℕ) → set marks rank (mark_at marks rank) ≡ marks

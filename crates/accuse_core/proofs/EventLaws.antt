@@ -1,20 +1,15 @@
 -- What each event does to sound marks, and events one after another.
-use Rattle.std.proofs.Common.{◌≡◌, ℕ, zero, suc, ◌+◌, ◌<◌, ◌≤◌, Bool, true, false, ◌⊎◌, ⊎_elim, List, [], ◌∷◌, ◌++◌, Contains, length, take, refl, ap, sym, subst, ◌∙◌, arith, eqb, ltb, leb, length-set}
-use Rattle.std.proofs.lemmas.Bool.{cases_lt, cases_Bool, both_ways, eqb-true, ltb-true, ltb-false}
+use Rattle.std.proofs.Common.{◌≡◌, ℕ, ◌+◌, ◌<◌, ◌≤◌, true, false, ⊎_elim, List, [], ◌∷◌, ◌++◌, length, take, refl, ap, sym, subst, ◌∙◌, arith, eqb, ltb, leb, length-set}
+use Rattle.std.proofs.lemmas.Bool.{cases_Bool, eqb-true, ltb-false}
 use Rattle.std.proofs.Math.Seq.{take-length}
-use Rattle.conflict_logic.specs.Certificate.{IsRefuted, IsCertified}
 use Rattle.accuse_core.specs.declared.mark.Mark.{Mark}
 use Rattle.accuse_core.specs.declared.event.Event.{Event}
 use Rattle.accuse_core.specs.declared.event.Event.TheVariants.{Take, TakeFront, No, Yes, Block}
-use Rattle.accuse_core.specs.Marks.{is_kept, is_removed, is_decided, is_yes_over, opening, mark_at, kept_of, kept_count, front_of, with_kept, with_removed, with_note, with_block, settled}
-use Rattle.accuse_core.specs.Events.{outcome, on_yes, IsFitting, IsAllowed}
+use Rattle.accuse_core.specs.Marks.{is_decided, is_yes_over, mark_at, kept_of, kept_count, front_of, with_kept, with_removed, with_note, with_block, settled}
+use Rattle.accuse_core.specs.Events.{outcome, on_yes, IsAllowed}
 use Rattle.accuse_core.specs.Journal.{after, AreAllowed}
 use Rattle.accuse_core.specs.Inside.Watching.{AreWatched, AreAtRest}
-use Rattle.accuse_core.proofs.RankLaws.{ranks_ascend}
-use Rattle.accuse_core.proofs.FrontLaws.{decided_before, front_within}
 use Rattle.accuse_core.proofs.BlockLaws.{block_length}
-use Rattle.accuse_core.proofs.TrackLaws.{opening_tracked, open_at}
-use Rattle.accuse_core.proofs.MarkLaws.{into_kept, out_of_kept, kept_or_removed}
 use Rattle.accuse_core.proofs.SoundLaws.{keep_watched, settle_to_rest, remove_watched, note_watched, block_watched}
 
 -- settling leaves the number of ranks
@@ -73,9 +68,9 @@ module _ (incoherent : List ℕ → Type 0) where
       let most = ltb-false seen (kept_count marks) fresh in
       let all : seen ≡ kept_count marks = omega arith in
       let with_all : ¬ (incoherent (kept_of marks ++ rank ∷ [])) =
-          subst (λ ranks. ¬ (incoherent (ranks ++ rank ∷ []))) (ap (λ n. take n (kept_of marks)) all ∙ take-length (kept_of marks)) coherent in
+      subst (λ ranks. ¬ (incoherent (ranks ++ rank ∷ []))) (ap (λ n. take n (kept_of marks)) all ∙ take-length (kept_of marks)) coherent in
       let kept : AreWatched incoherent (with_kept marks rank) =
-          subst (λ r. AreWatched incoherent (with_kept marks r)) (sym at) (keep_watched incoherent marks w.watched (rw at at inside) (rw at at with_all)) in
+      subst (λ r. AreWatched incoherent (with_kept marks r)) (sym at) (keep_watched incoherent marks w.watched (rw at at inside) (rw at at with_all)) in
       rw (undecided, fresh, here) (settle_to_rest incoherent (with_kept marks rank) kept))
       (λ (elsewhere : eqb rank (front_of marks) ≡ false). ⊎_elim
       (λ (far : leb (front_of marks + 64) rank ≡ true). rw (undecided, fresh, elsewhere, far) w)

@@ -1,15 +1,15 @@
 -- Sound marks from the opening on, and journals that grow.
-use Rattle.std.proofs.Common.{◌≡◌, ℕ, zero, suc, ◌+◌, ◌<◌, ◌≤◌, Bool, true, false, ◌⊎◌, ⊎_elim, List, [], ◌∷◌, ◌++◌, Contains, length, refl, ap, sym, subst, ◌∙◌, arith}
+use Rattle.std.proofs.Common.{◌≡◌, ℕ, ◌<◌, ◌≤◌, ⊎_elim, List, [], ◌∷◌, ◌++◌, Contains, length, refl, ap, ◌∙◌}
 use Rattle.std.proofs.lemmas.Bool.{cases_lt, both_ways}
 use Rattle.std.proofs.lemmas.List.{length-replicate}
 use Rattle.conflict_logic.specs.Accused.{IsSpared}
 use Rattle.conflict_logic.specs.Repair.{IsRepair}
 use Rattle.conflict_logic.specs.Certificate.{IsRefuted, IsCertified}
 use Rattle.accuse_core.specs.declared.mark.Mark.{Mark}
-use Rattle.accuse_core.specs.declared.mark.Mark.TheVariants.{Open, Yes, Kept, Removed}
+use Rattle.accuse_core.specs.declared.mark.Mark.TheVariants.{Open, Yes, Removed}
 use Rattle.accuse_core.specs.declared.event.Event.{Event}
 use Rattle.accuse_core.specs.declared.journal.Entry.{Entry}
-use Rattle.accuse_core.specs.Marks.{is_kept, is_removed, is_decided, is_yes_over, opening, mark_at, kept_of, kept_count, front_of}
+use Rattle.accuse_core.specs.Marks.{is_kept, is_removed, is_yes_over, opening, mark_at, kept_of, kept_count, front_of}
 use Rattle.accuse_core.specs.Events.{outcome, IsFitting, IsAllowed}
 use Rattle.accuse_core.specs.Journal.{after, AreAllowed, events_of, AreReplied, replayed, IsJournal}
 use Rattle.accuse_core.specs.Sound.{AreSound}

@@ -1,13 +1,12 @@
 -- Kept ranks as a list, read off the marks, and how changes add to it.
-use Rattle.std.proofs.Common.{◌≡◌, ℕ, zero, suc, ◌+◌, ◌<◌, ◌≤◌, Bool, true, false, not, cond, ◌⊎◌, ⊎_elim, inl, inr, List, [], ◌∷◌, ◌++◌, map, Contains, length, get_or, set, take, drop, refl, ap, sym, subst, ◌∙◌, arith, add-zero, zero-add}
+use Rattle.std.proofs.Common.{◌≡◌, ℕ, zero, suc, ◌+◌, ◌<◌, ◌≤◌, true, false, not, ◌⊎◌, ⊎_elim, inl, inr, List, [], ◌∷◌, ◌++◌, map, Contains, length, set, take, drop, refl, ap, sym, subst, ◌∙◌, arith, zero-add}
 use Rattle.std.proofs.lemmas.Bool.{cases_lt, both_ways}
 use Rattle.std.proofs.lemmas.List.{take-append-drop, length-take-le}
-use Rattle.std.proofs.lemmas.List.Elements.{Contains-append_left}
 use Rattle.accuse_core.specs.declared.mark.Mark.{Mark}
 use Rattle.accuse_core.specs.declared.mark.Mark.TheVariants.{Open, Yes, Kept, Removed}
 use Rattle.accuse_core.specs.Marks.{is_kept, is_removed, is_decided, mark_at, ranks_from, kept_of, kept_unless_removed, with_first_kept, with_block, block_of, front_of}
 use Rattle.accuse_core.specs.Inside.Tracking.{NoneKeptFrom}
-use Rattle.accuse_core.proofs.RankLaws.{Passes, no_ranks, ranks_append, ranks_set_passing, into_ranks, out_of_ranks}
+use Rattle.accuse_core.proofs.RankLaws.{no_ranks, ranks_append, ranks_set_passing, into_ranks, out_of_ranks}
 use Rattle.accuse_core.proofs.FrontLaws.{decided_before}
 use Rattle.accuse_core.proofs.BlockLaws.{block_before, block_within, block_past}
 
@@ -90,9 +89,9 @@ block_grows marks rank count inside ahead =
     let none : (r : ℕ) → is_kept (mark_at rest r) ≡ false = λ r. ap is_kept (at_drop marks rank r) ∙ ahead (rank + r) (omega arith) in
     let at : 0 + length front ≡ rank = zero-add (length front) ∙ length-take-le rank marks inside in
     let with_more : (more : List Mark) → ranks_from is_kept 0 (front ++ more) ≡ ranks_from is_kept 0 front ++ ranks_from is_kept rank more =
-        λ more. ranks_append is_kept 0 front more ∙ ap (λ n. ranks_from is_kept 0 front ++ ranks_from is_kept n more) at in
+    λ more. ranks_append is_kept 0 front more ∙ ap (λ n. ranks_from is_kept 0 front ++ ranks_from is_kept n more) at in
     let before : kept_of marks ≡ ranks_from is_kept 0 front =
-        ap kept_of (sym (take-append-drop rank marks)) ∙ with_more rest ∙ ap (λ ranks. ranks_from is_kept 0 front ++ ranks) (no_ranks is_kept rank rest none) ∙ append_nil (ranks_from is_kept 0 front) in
+    ap kept_of (sym (take-append-drop rank marks)) ∙ with_more rest ∙ ap (λ ranks. ranks_from is_kept 0 front ++ ranks) (no_ranks is_kept rank rest none) ∙ append_nil (ranks_from is_kept 0 front) in
     with_more (with_first_kept count rest) ∙ ap (λ ranks. ranks_from is_kept 0 front ++ ranks) (kept_of_first rank count rest none)
     ∙ ap (λ ranks. ranks ++ block_of marks rank count) (sym before)
 

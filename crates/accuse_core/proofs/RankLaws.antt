@@ -1,6 +1,6 @@
 -- The ranks whose marks pass a test.
-use Rattle.std.proofs.Common.{◌≡◌, ℕ, zero, suc, ◌+◌, ◌<◌, ◌≤◌, Bool, true, false, cond, ◌⊎◌, ⊎_elim, List, [], ◌∷◌, ◌++◌, Contains, length, get_or, set, take, drop, refl, ap, sym, subst, ◌∙◌, arith, add-zero, add-one, zero-add, inl, inr}
-use Rattle.std.proofs.lemmas.Bool.{cond-true, cond-false, cases_Bool}
+use Rattle.std.proofs.Common.{◌≡◌, ℕ, zero, suc, ◌+◌, ◌<◌, ◌≤◌, Bool, true, false, cond, ◌⊎◌, ⊎_elim, List, [], ◌∷◌, ◌++◌, Contains, length, get_or, set, refl, ap, sym, subst, ◌∙◌, arith, add-zero, add-one, inl, inr}
+use Rattle.std.proofs.lemmas.Bool.{cond-false, cases_Bool}
 use Rattle.std.proofs.lemmas.List.Elements.{Contains-append_right, Contains-append_left, Contains-append_cases, Contains-push, Contains-push_cases, Contains-get_or}
 use Rattle.std.specs.List.Sorted.{IsStrictlyIncreasing}
 use Rattle.accuse_core.specs.declared.mark.Mark.{Mark}
@@ -75,7 +75,7 @@ module _ (passes : Mark → Bool) where
       let moved : suc first + place ≡ first + suc place = omega arith in
       let later = subst (Contains (ranks_from passes (suc first) xs)) moved (into_ranks (suc first) xs place (omega arith) holds) in
       elim (passes x) as (λ b. Contains (cond b (first ∷ ranks_from passes (suc first) xs) (ranks_from passes (suc first) xs)) (first + suc place))
-          [ true ↦ Contains-append_right (first ∷ []) (ranks_from passes (suc first) xs) (first + suc place) later | false ↦ later ]
+      [ true ↦ Contains-append_right (first ∷ []) (ranks_from passes (suc first) xs) (first + suc place) later | false ↦ later ]
 
   -- a rank among them has a mark that passes
   pub record Passes (first : ℕ) (marks : List Mark) (rank : ℕ) : Type 0 where
@@ -116,7 +116,7 @@ module _ (passes : Mark → Bool) where
   ranks_at_most first (x ∷ xs) =
       let later = ranks_at_most (suc first) xs in
       elim (passes x) as (λ b. length (cond b (first ∷ ranks_from passes (suc first) xs) (ranks_from passes (suc first) xs)) ≤ suc (length xs))
-          [ true ↦ omega arith | false ↦ omega arith ]
+      [ true ↦ omega arith | false ↦ omega arith ]
 
   -- fewer than there are marks, if one of these doesn't pass
   pub fewer_ranks : (first : ℕ) (marks : List Mark) (place : ℕ) → place < length marks → passes (mark_at marks place) ≡ false
@@ -126,4 +126,4 @@ module _ (passes : Mark → Bool) where
   fewer_ranks first (x ∷ xs) (suc place) inside fails =
       let later = fewer_ranks (suc first) xs place (omega arith) fails in
       elim (passes x) as (λ b. length (cond b (first ∷ ranks_from passes (suc first) xs) (ranks_from passes (suc first) xs)) < suc (length xs))
-          [ true ↦ omega arith | false ↦ omega arith ]
+      [ true ↦ omega arith | false ↦ omega arith ]

@@ -1,19 +1,18 @@
 -- Allowed events keep the marks sound.
-use Rattle.std.proofs.Common.{◌≡◌, ℕ, zero, suc, ◌+◌, ◌<◌, ◌≤◌, Bool, true, false, cond, ◌⊎◌, ⊎_elim, inl, inr, List, [], ◌∷◌, ◌++◌, Contains, length, set, take, drop, refl, ap, sym, subst, ◌∙◌, arith, length-append}
-use Rattle.std.proofs.lemmas.Bool.{cases_lt, cases_eq, cases_Bool, both_ways, eqb-true, ne_eqb}
+use Rattle.std.proofs.Common.{◌≡◌, ℕ, zero, suc, ◌+◌, ◌<◌, ◌≤◌, true, false, ⊎_elim, List, [], ◌∷◌, ◌++◌, Contains, length, set, take, drop, refl, ap, sym, subst, ◌∙◌, arith, length-append}
+use Rattle.std.proofs.lemmas.Bool.{cases_Bool, both_ways, eqb-true, ne_eqb}
 use Rattle.std.proofs.lemmas.List.{take-append-le, take-append-drop}
 use Rattle.std.proofs.Math.Seq.{take-length}
-use Rattle.std.proofs.lemmas.List.Elements.{Contains-append_left, Contains-append_cases, Contains-push_cases}
+use Rattle.std.proofs.lemmas.List.Elements.{Contains-append_left}
 use Rattle.conflict_logic.specs.Certificate.{IsRefuted}
 use Rattle.accuse_core.specs.declared.mark.Mark.{Mark}
 use Rattle.accuse_core.specs.declared.mark.Mark.TheVariants.{Open, Yes, Kept, Removed}
 use Rattle.accuse_core.specs.Marks.{is_kept, is_removed, is_decided, is_yes_over, mark_at, kept_of, kept_count, front_of, kept_unless_removed, with_kept, with_removed, with_note, with_block, block_of, settled}
-use Rattle.accuse_core.specs.Inside.Tracking.{NoneKeptFrom}
 use Rattle.accuse_core.specs.Inside.Watching.{IsNoted, AreWatched, AreAtRest}
 use Rattle.accuse_core.proofs.RankLaws.{ranks_set_failing}
-use Rattle.accuse_core.proofs.FrontLaws.{at_set, decided_before, open_at_front, front_rises, front_passes, front_stays, none_kept_with, none_kept_past}
+use Rattle.accuse_core.proofs.FrontLaws.{at_set, front_rises, front_passes, front_stays, none_kept_with, none_kept_past}
 use Rattle.accuse_core.proofs.TrackLaws.{undecided_is_not_kept, front_past_block}
-use Rattle.accuse_core.proofs.MarkLaws.{kept_or_removed, into_kept, out_of_kept, kept_is_before, kept_grows, block_grows, at_block}
+use Rattle.accuse_core.proofs.MarkLaws.{kept_is_before, kept_grows, block_grows, at_block}
 
 -- some ranks with more behind them
 with_more : (incoherent : List ℕ → Type 0) (ranks more : List ℕ) (seen rank : ℕ) → seen ≤ length ranks
@@ -112,7 +111,7 @@ module _ (incoherent : List ℕ → Type 0) where
         let more : kept_count now ≡ kept_count marks + 1 = rw (is, grown, length-append) refl in
         fewer_dont_wait (kept_count now) (mark_at now (front_of now)) (λ seen yes_mark.
         let few : seen ≤ kept_count marks = at_set (λ mark. mark ≡ Yes seen → seen ≤ kept_count marks) marks (front_of marks) Kept (front_of now) inside
-            (λ same kept. cc) (λ differs old. w.seen (front_of now) seen old) (subst (λ xs. mark_at xs (front_of now) ≡ Yes seen) is yes_mark) in
+        (λ same kept. cc) (λ differs old. w.seen (front_of now) seen old) (subst (λ xs. mark_at xs (front_of now) ≡ Yes seen) is yes_mark) in
         omega arith)
 
     pub settle_to_rest : AreAtRest incoherent (settled marks)
@@ -179,8 +178,8 @@ module _ (incoherent : List ℕ → Type 0) where
         let further = front_past_block marks count inside in
         let whole : ¬ (incoherent (kept_of new)) = rw grown coherent in
         let gone_before : (rank : ℕ) → is_removed (mark_at new rank) ≡ true → is_removed (mark_at marks rank) ≡ true =
-            λ rank. at_block (λ mark. is_removed mark ≡ true → is_removed (mark_at marks rank) ≡ true) marks front count rank inside
-            (λ before gone. gone) (λ from below gone. removed_before (mark_at marks rank) gone) (λ past gone. gone) in
+        λ rank. at_block (λ mark. is_removed mark ≡ true → is_removed (mark_at marks rank) ≡ true) marks front count rank inside
+        (λ before gone. gone) (λ from below gone. removed_before (mark_at marks rank) gone) (λ past gone. gone) in
         record {
           refuted = λ rank gone. rw grown (refuted_by_more (kept_of marks) more rank (w.refuted rank (gone_before rank gone)));
           ahead = λ rank past. at_block (λ mark. is_kept mark ≡ false) marks front count rank inside

@@ -1,11 +1,11 @@
 -- The vectors of the core after each change.
-use Rattle.std.proofs.Common.{◌≡◌, ℕ, zero, suc, ◌+◌, ◌<◌, ◌≤◌, ◌^◌, Bool, true, false, ◌⊎◌, ⊎_elim, List, [], ◌∷◌, ◌++◌, length, get_or, set, refl, ap, sym, subst, ◌∙◌, arith, add-one, zero-add, length-set}
+use Rattle.std.proofs.Common.{◌≡◌, ℕ, zero, suc, ◌+◌, ◌<◌, ◌≤◌, ◌^◌, true, false, ⊎_elim, List, [], ◌∷◌, ◌++◌, length, set, refl, ap, sym, ◌∙◌, arith, zero-add, length-set}
 use Rattle.std.proofs.lemmas.List.{length-replicate}
 use Rattle.std.proofs.lemmas.Bool.{cases_lt}
 use Rattle.accuse_core.specs.declared.mark.Mark.{Mark}
 use Rattle.accuse_core.specs.declared.mark.Mark.TheVariants.{Open, Yes, Kept, Removed}
-use Rattle.accuse_core.specs.Marks.{is_kept, is_removed, is_decided, opening, mark_at, ranks_from, kept_of, kept_count, front_of, kept_unless_removed, with_block}
-use Rattle.accuse_core.specs.Inside.Tracking.{NoneKeptFrom, AreTracked}
+use Rattle.accuse_core.specs.Marks.{is_kept, is_removed, is_decided, opening, mark_at, kept_of, front_of, kept_unless_removed, with_block}
+use Rattle.accuse_core.specs.Inside.Tracking.{AreTracked}
 use Rattle.accuse_core.proofs.RankLaws.{no_ranks, ranks_set_failing, ranks_set_passing, fewer_ranks}
 use Rattle.accuse_core.proofs.FrontLaws.{front_rises, front_passes, none_kept_with, none_kept_past, front_at_least, decided_before}
 use Rattle.accuse_core.proofs.BlockLaws.{set_same, block_before, block_within, block_length, kept_unless_removed_is_decided}

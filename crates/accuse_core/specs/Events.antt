@@ -59,11 +59,12 @@ outcome marks (Block worker rank count seen) = on_block marks rank count
 abbrev pub IsFittingVerdict : List Mark → ℕ → ℕ → Type 0
 IsFittingVerdict marks rank seen = (rank < length marks) × (seen ≤ kept_count marks)
 
--- a block fits if it begins at the front, has seen all kept ranks, is not empty, and ends within the
--- ranks
+-- a block fits if it begins at the front, has seen all kept ranks, is not empty, and ends within
+-- the ranks
 abbrev pub IsFittingBlock : List Mark → ℕ → ℕ → ℕ → Type 0
 IsFittingBlock marks rank count seen =
-    (rank ≡ front_of marks) × (seen ≡ kept_count marks) × (1 ≤ count) × (rank + count ≤ length marks)
+    (rank ≡ front_of marks) × (seen ≡ kept_count marks)
+    × (1 ≤ count) × (rank + count ≤ length marks)
 
 abbrev pub IsFitting : List Mark → Event → Type 0
 IsFitting marks (Take worker rank) = rank < length marks
@@ -85,6 +86,7 @@ IsTrueVerdict incoherent marks (Block worker rank count seen) =
     ¬ (incoherent (kept_of marks ++ block_of marks rank count))
 
 -- an event that workers may tell
-pub record IsAllowed (incoherent : List ℕ → Type 0) (marks : List Mark) (event : Event) : Type 0 where
+pub record IsAllowed (incoherent : List ℕ → Type 0) (marks : List Mark) (event : Event)
+    : Type 0 where
   pub fits : IsFitting marks event
   pub verdict : IsTrueVerdict incoherent marks event

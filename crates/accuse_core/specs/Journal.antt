@@ -34,6 +34,7 @@ abbrev pub replayed : ℕ → List Entry → List Mark
 replayed ranks entries = after (opening ranks) (events_of entries)
 
 -- entries from the opening on: each event is allowed, and has the core's reply
-pub record IsJournal (incoherent : List ℕ → Type 0) (ranks : ℕ) (entries : List Entry) : Type 0 where
+pub record IsJournal (incoherent : List ℕ → Type 0) (ranks : ℕ) (entries : List Entry)
+    : Type 0 where
   pub allowed : AreAllowed incoherent (opening ranks) (events_of entries)
   pub replied : AreReplied (opening ranks) entries

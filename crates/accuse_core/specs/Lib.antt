@@ -1,6 +1,6 @@
 pub mod Marks
 pub mod Events
-pub mod Room
+pub mod Seen
 pub mod Journal
 pub mod Sound
 pub mod Inside

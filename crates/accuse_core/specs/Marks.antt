@@ -1,5 +1,5 @@
 -- The state of the core: a mark for each rank. The kept ranks and the front are read off the marks.
-use Rattle.std.specs.Prelude.{ℕ, zero, suc, ◌+◌, Bool, true, false, not, if◌then◌else◌, ◌==◌, List, [], ◌∷◌, ◌++◌, map, take, drop, length, slice_index_or, slice_set, replicate}
+use Rattle.std.specs.Prelude.{ℕ, suc, Bool, true, false, not, if◌then◌else◌, ◌==◌, List, [], ◌∷◌, ◌++◌, map, take, drop, length, slice_index_or, slice_set, replicate}
 use Rattle.std.specs.List.{prefix_len}
 use Rattle.accuse_core.specs.declared.mark.Mark.{Mark}
 use Rattle.accuse_core.specs.declared.mark.Mark.TheVariants.{Open, Yes, Kept, Removed}
@@ -76,7 +76,8 @@ with_block marks rank count = take rank marks ++ with_first_kept count (drop ran
 
 -- the ranks of a block that are not removed
 abbrev pub block_of : List Mark → ℕ → ℕ → List ℕ
-block_of marks rank count = ranks_from (λ mark. not (is_removed mark)) rank (take count (drop rank marks))
+block_of marks rank count =
+    ranks_from (λ mark. not (is_removed mark)) rank (take count (drop rank marks))
 
 -- a yes over just this number of kept ranks
 abbrev pub is_yes_over : ℕ → Mark → Bool

@@ -11,10 +11,12 @@ use Rattle.accuse_core.specs.Marks.{is_decided, mark_at, kept_of, front_of}
 -- before the front are decided; the kept ranks ascend, and together they are coherent
 pub record AreSound (incoherent : List ℕ → Type 0) (marks : List Mark) : Type 0 where
   pub kept_is_spared : (rank : ℕ) → mark_at marks rank ≡ Kept → IsSpared incoherent rank
-  pub removed_is_not_spared : (rank : ℕ) → mark_at marks rank ≡ Removed → ¬ (IsSpared incoherent rank)
+  pub removed_is_not_spared : (rank : ℕ) → mark_at marks rank ≡ Removed
+      → ¬ (IsSpared incoherent rank)
   pub removed_is_refuted : (rank : ℕ) → mark_at marks rank ≡ Removed
       → IsRefuted incoherent (Contains (kept_of marks)) rank
-  pub decided_before_front : (rank : ℕ) → rank < front_of marks → is_decided (mark_at marks rank) ≡ true
+  pub decided_before_front : (rank : ℕ) → rank < front_of marks
+      → is_decided (mark_at marks rank) ≡ true
   pub kept_before_front : (rank : ℕ) → Contains (kept_of marks) rank → rank < front_of marks
   pub kept_ascends : IsStrictlyIncreasing (kept_of marks)
   pub kept_is_coherent : ¬ (incoherent (kept_of marks))

@@ -5,13 +5,26 @@
 #[derive(Clone, Copy, Debug, PartialEq, Eq)]
 pub enum Event {
     /// Asks to test a rank.
-    Take { worker: u32, rank: u32 },
+    Take {
+        worker: u32,
+        rank: u32,
+    },
     /// Asks to test the rank at the front.
-    TakeFront { worker: u32 },
+    TakeFront {
+        worker: u32,
+    },
     /// Tells that the rank is incoherent together with the kept ranks seen.
-    No { worker: u32, rank: u32, seen: u32 },
+    No {
+        worker: u32,
+        rank: u32,
+        seen: u32,
+    },
     /// Tells that the rank is coherent together with the kept ranks seen.
-    Yes { worker: u32, rank: u32, seen: u32 },
+    Yes {
+        worker: u32,
+        rank: u32,
+        seen: u32,
+    },
     /// Tells that all kept ranks are coherent together with the ranks of a block that are not
     /// removed. The block begins at the front.
     Block {

@@ -23,13 +23,13 @@ pub struct Entries {
 
 impl Model for Entries {
     ghost use Rattle.std.specs.Prelude.{◌-◌, vec_len, vec_capacity};
-    ghost use Rattle.accuse_core.specs.Room.{Roomy};
+    ghost use Rattle.accuse_core.specs.Seen.{EntriesSeen};
 
-    ghost Value = { Roomy };
+    ghost Value = { EntriesSeen };
 
     ghost view = { λ e. record {
-        entries = e.items.items;
-        room = vec_capacity e.items - vec_len e.items
+      entries = e.items.items;
+      room = vec_capacity e.items - vec_len e.items;
     } };
 }
 

@@ -1,6 +1,6 @@
 //! Laws on events: functions that do nothing and whose contracts are the laws.
 
-ghost use Rattle.std.specs.Prelude.{◌≡◌, ◌↔◌, ◌<◌, ◌≤◌, ◌++◌, ℕ, Bool, List, [], ◌∷◌, false, length, Contains};
+ghost use Rattle.std.specs.Prelude.{◌≡◌, ◌↔◌, ◌<◌, ◌≤◌, ◌++◌, ℕ, Bool, List, [], ◌∷◌, true, false, ◌+◌, length, Contains};
 ghost use Rattle.conflict_logic.specs.Sets.{IsClosedUnderAdding};
 ghost use Rattle.conflict_logic.specs.Accused.{IsAccused};
 ghost use Rattle.conflict_logic.specs.Repair.{IsRepair};
@@ -8,15 +8,15 @@ ghost use Rattle.conflict_logic.specs.Greedy.{family_of};
 ghost use Rattle.accuse_core.specs.declared.event.Event.{Event};
 ghost use Rattle.accuse_core.specs.declared.journal.Entry.{Entry};
 ghost use Rattle.accuse_core.specs.declared.mark.Mark.{Mark};
-ghost use Rattle.accuse_core.specs.Marks.{is_yes_over, opening, mark_at, kept_of, kept_count, front_of};
+ghost use Rattle.accuse_core.specs.Marks.{is_decided, is_yes_over, kept_unless_removed, with_block, opening, mark_at, kept_of, kept_count, front_of};
 ghost use Rattle.accuse_core.specs.Events.{outcome, IsAllowed};
 ghost use Rattle.accuse_core.specs.Journal.{after, AreAllowed, replayed, IsJournal};
 ghost use Rattle.accuse_core.specs.Sound.{AreSound};
 
 use conflict_logic::Family;
 use conflict_logic::certificate::{
-    certified_ranks_are_a_repair, certified_ranks_are_an_exact_repair, refuted_by_spared_is_accused,
-    refuted_by_spared_is_not_spared,
+    certified_ranks_are_a_repair, certified_ranks_are_an_exact_repair,
+    refuted_by_spared_is_accused, refuted_by_spared_is_not_spared,
 };
 
 /// Whatever allowed events come, and in whatever order: a kept rank is spared, a removed one is
@@ -99,4 +99,24 @@ pub fn events_leave_the_ranks()
 pub fn kept_ranks_have_the_mark()
     ensures { (marks : List Mark) (rank : ℕ)
         → Contains (kept_of marks) rank ↔ (mark_at marks rank ≡ Mark.Kept) }
+{}
+
+/// The front is the least rank that is not decided, or the number of ranks.
+pub fn front_is_the_least_undecided_rank()
+    ensures within { (marks : List Mark) → front_of marks ≤ length marks }
+    ensures before { (marks : List Mark) (rank : ℕ) → rank < front_of marks
+        → is_decided (mark_at marks rank) ≡ true }
+    ensures there { (marks : List Mark) → front_of marks < length marks
+        → is_decided (mark_at marks (front_of marks)) ≡ false }
+{}
+
+/// A block keeps its ranks unless they are removed, and leaves all others.
+pub fn blocks_keep_what_is_not_removed()
+    ensures within { (marks : List Mark) (rank count other : ℕ)
+        → rank ≤ other → other < rank + count → other < length marks
+        → mark_at (with_block marks rank count) other ≡ kept_unless_removed (mark_at marks other) }
+    ensures before { (marks : List Mark) (rank count other : ℕ) → other < rank
+        → mark_at (with_block marks rank count) other ≡ mark_at marks other }
+    ensures past { (marks : List Mark) (rank count other : ℕ) → rank + count ≤ other
+        → mark_at (with_block marks rank count) other ≡ mark_at marks other }
 {}

@@ -77,7 +77,10 @@ impl Core {
             Event::No { rank, seen, .. } => self.has_seen(rank, seen),
             Event::Yes { rank, seen, .. } => self.has_seen(rank, seen),
             Event::Block {
-                rank, count, seen, ..
+                rank,
+                count,
+                seen,
+                ..
             } => self.fits_block(rank, count, seen),
         }
     }

@@ -63,14 +63,11 @@ fn open_marks(alloc: Global, ranks: u32) -> Result<Vec<Mark>, AllocError>
 fn decided_len(marks: &[Mark]) -> usize
     ensures { result ≡ front_of marks.now }
 {
-    marks
-        .iter()
-        .take_while(|mark| is_decided(**mark))
-        .count()
+    marks.iter().take_while(|mark| is_decided(**mark)).count()
 }
 
 // The front, sought from a rank on before which all are decided.
-#[tactic(auto, using(crate::proofs::FrontLaws::front_goes_on, crate::proofs::FrontLaws::front_within))]
+#[tactic(auto, using(crate::proofs::FrontLaws::front_within))]
 fn front_after(marks: &[Mark], rank: usize) -> usize
     requires { rank ≤ front_of marks.now }
     ensures { result ≡ front_of marks.now }

@@ -1,5 +1,4 @@
 use Rattle.std.proofs.Common.{arith, ◌≤◌, ◌<◌, ◌+◌, length}
-use Rattle.accuse_core.specs.Marks.{front_of}
 use Rattle.accuse_core.proofs.BlockLaws.{block_step}
 use Rattle.accuse_core.proofs.TrackLaws.{tracked_further, front_past_new_block}
 use Rattle.accuse_core.proofs.marks.Marks.keep_block.Goals as goal

@@ -1,5 +1,5 @@
-use Rattle.std.proofs.Common.{arith, length, ◌≤◌, ap}
-use Rattle.accuse_core.specs.Marks.{is_kept, kept_of}
+use Rattle.std.proofs.Common.{arith, length, ap}
+use Rattle.accuse_core.specs.Marks.{is_kept}
 use Rattle.accuse_core.proofs.RankLaws.{ranks_at_most}
 use Rattle.accuse_core.proofs.marks.Marks.kept_count.Goals as goal
 
