@@ -1,1 +1,4 @@
 pub mod WriteLaws
+pub mod SwapLaws
+pub mod HeadAgain
+pub mod Again
