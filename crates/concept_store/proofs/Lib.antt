@@ -1,2 +1,4 @@
 pub mod NumberLaws
 pub mod TreeLaws
+pub mod ForestLaws
+pub mod NumberingLaws

@@ -101,3 +101,17 @@ added_place tree (first ∷ trees) lost = by (same_tree tree first) (added_place
     by : (b : Bool) → (list_any (same_tree tree) trees ≡ false → place_of tree (trees ++ tree ∷ []) ≡ length trees) → (b || list_any (same_tree tree) trees) ≡ false → cond (not b) (1 + place_of tree (trees ++ tree ∷ [])) 0 ≡ length (first ∷ trees)
     by true rest h = absurd (true≢false h)
     by false rest h = omega (arith, rest h)
+
+-- a tree that was not there before one was added is that one
+pub only_added : (other tree : Tree) (trees : List Tree) → list_any (same_tree other) trees ≡ false → place_of other (trees ++ tree ∷ []) < length (trees ++ tree ∷ []) → other ≡ tree
+only_added other tree [] lost there = by (same_tree other tree) refl there
+  where
+    by : (b : Bool) → same_tree other tree ≡ b → cond (not b) (1 + 0) 0 < 1 → other ≡ tree
+    by true same h = same_tree_equal other tree same
+    by false same h = absurd (omega arith)
+only_added other tree (first ∷ trees) lost there = by (same_tree other first) (only_added other tree trees) lost there
+  where
+    by : (b : Bool) → (list_any (same_tree other) trees ≡ false → place_of other (trees ++ tree ∷ []) < length (trees ++ tree ∷ []) → other ≡ tree) → (b || list_any (same_tree other) trees) ≡ false →
+        cond (not b) (1 + place_of other (trees ++ tree ∷ [])) 0 < length (first ∷ (trees ++ tree ∷ [])) → other ≡ tree
+    by true rest h there_too = absurd (true≢false h)
+    by false rest h there_too = rest h (omega arith)

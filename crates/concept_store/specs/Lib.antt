@@ -1,4 +1,5 @@
 pub mod Trees
 pub mod Nodes
+pub mod Roles
 pub mod Faults
 pub mod Inside
