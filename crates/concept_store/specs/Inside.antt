@@ -2,3 +2,4 @@
 pub mod Hashes
 pub mod SameNodes
 pub mod Numbering
+pub mod InTrees

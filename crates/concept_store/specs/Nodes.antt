@@ -1,6 +1,7 @@
 -- The nodes of two ontologies, in their order.
-use Rattle.std.specs.Prelude.{◌≡◌, ℕ, ◌+◌, ◌-◌, Bool, true, false, ◌&&◌, ◌==◌, List, [], ◌∷◌, ◌++◌, map, length, Some, slice_get}
+use Rattle.std.specs.Prelude.{◌≡◌, ℕ, ◌+◌, ◌-◌, Bool, true, false, ◌&&◌, ◌==◌, List, [], ◌∷◌, ◌++◌, map, length, Option, Some, slice_get, position}
 use Rattle.std.specs.List.{range_with_len}
+use Rattle.std.specs.Option.{option_and_then}
 use Rattle.el_logic.specs.declared.types.Expr.{Expr}
 use Rattle.el_logic.specs.declared.types.Axiom.{Axiom}
 use Rattle.el_logic.specs.declared.types.Axiom.TheVariants as A
@@ -86,3 +87,16 @@ parts_within (axiom' ∷ axioms) = part_count axiom' + parts_within axioms
 abbrev pub all_over : List Tree → ℕ → List Axiom → List NodeAxiom
 all_over trees first [] = []
 all_over trees first (axiom' ∷ axioms) = over trees first axiom' ∷ all_over trees (first + part_count axiom') axioms
+
+-- the number of the node that stands for a tree, if one does: the one that has the numbers of the
+-- nodes that stand for its parts
+abbrev pub node_for : List Node → Tree → Option ℕ
+node_for nodes thing = position (same_node Top) nodes
+node_for nodes nothing = position (same_node Bottom) nodes
+node_for nodes (name class) = position (same_node (Class class)) nodes
+node_for nodes (both one other) =
+    option_and_then
+    (λ a. option_and_then (λ b. position (same_node (And a b)) nodes) (node_for nodes other))
+    (node_for nodes one)
+node_for nodes (some role filler) =
+    option_and_then (λ inner. position (same_node (Exists role inner)) nodes) (node_for nodes filler)

@@ -1,5 +1,5 @@
 -- How the code numbers expressions one after the other.
-use Rattle.std.specs.Prelude.{ℕ, ◌+◌, ◌^◌, ◌<◌, if◌then◌else◌, List, [], ◌∷◌, ◌++◌, fold, ⊤}
+use Rattle.std.specs.Prelude.{ℕ, ◌+◌, ◌-◌, ◌^◌, ◌<◌, min, if◌then◌else◌, List, [], ◌∷◌, ◌++◌, fold, ⊤}
 use Rattle.std.specs.List.{list_any, position_or_len}
 use Rattle.el_logic.specs.declared.types.Expr.{Expr}
 use Rattle.el_logic.specs.declared.types.Axiom.{Axiom}
@@ -9,7 +9,7 @@ use Rattle.concept_store.specs.declared.types.Node.TheVariants.{And, Exists}
 use Rattle.concept_store.specs.declared.types.NodeAxiom.{NodeAxiom}
 use Rattle.concept_store.specs.declared.types.NodeAxiom.TheVariants.{SubClass, Equivalent, Disjoint, SubRole, EquivalentRoles, Transitive, Reflexive, Domain}
 use Rattle.concept_store.specs.Trees.{Tree, thing, nothing, name, both, some, tree_of}
-use Rattle.concept_store.specs.Nodes.{same_node}
+use Rattle.concept_store.specs.Nodes.{same_node, expressions, part_count}
 
 -- the nodes, and one more unless it is among them
 abbrev pub with_node : List Node → Node → List Node
@@ -51,23 +51,36 @@ numbered_each (expr ∷ exprs) nodes =
     let rest = numbered_each exprs first.1 in
     (first.0 ∷ rest.0, rest.1)
 
--- the axiom over nodes, whose parts have no roles yet, and the nodes with its expressions
-abbrev pub numbered_axiom : Axiom → List Node → NodeAxiom × List Node
-numbered_axiom (A.SubClass low high) nodes =
+-- a number that stops at the greatest of 32 bits
+abbrev pub in_32_bits : ℕ → ℕ
+in_32_bits n = min n (2 ^ 32 - 1)
+
+-- the axiom over nodes, and the nodes with its expressions
+abbrev pub numbered_axiom : ℕ → Axiom → List Node → NodeAxiom × List Node
+numbered_axiom first (A.SubClass low high) nodes =
     let one = numbered (tree_of low) nodes in
     let other = numbered (tree_of high) one.1 in
     (SubClass one.0 other.0, other.1)
-numbered_axiom (A.Equivalent exprs) nodes = let each = numbered_each exprs nodes in (Equivalent each.0, each.1)
-numbered_axiom (A.Disjoint exprs) nodes = let each = numbered_each exprs nodes in (Disjoint each.0, each.1)
-numbered_axiom (A.SubRole chain role) nodes = (SubRole chain role 0, nodes)
-numbered_axiom (A.EquivalentRoles roles) nodes = (EquivalentRoles roles, nodes)
-numbered_axiom (A.Transitive role) nodes = (Transitive role, nodes)
-numbered_axiom (A.Reflexive role) nodes = (Reflexive role, nodes)
-numbered_axiom (A.Domain role expr) nodes = let one = numbered (tree_of expr) nodes in (Domain role one.0, one.1)
+numbered_axiom first (A.Equivalent exprs) nodes = let each = numbered_each exprs nodes in (Equivalent each.0, each.1)
+numbered_axiom first (A.Disjoint exprs) nodes = let each = numbered_each exprs nodes in (Disjoint each.0, each.1)
+numbered_axiom first (A.SubRole chain role) nodes = (SubRole chain role first, nodes)
+numbered_axiom first (A.EquivalentRoles roles) nodes = (EquivalentRoles roles, nodes)
+numbered_axiom first (A.Transitive role) nodes = (Transitive role, nodes)
+numbered_axiom first (A.Reflexive role) nodes = (Reflexive role, nodes)
+numbered_axiom first (A.Domain role expr) nodes = let one = numbered (tree_of expr) nodes in (Domain role one.0, one.1)
 
-abbrev pub numbered_axioms : List Axiom → List Node → List NodeAxiom × List Node
-numbered_axioms [] nodes = ([], nodes)
-numbered_axioms (first ∷ rest) nodes =
-    let one = numbered_axiom first nodes in
-    let others = numbered_axioms rest one.1 in
+abbrev pub numbered_axioms : ℕ → List Axiom → List Node → List NodeAxiom × List Node
+numbered_axioms first [] nodes = ([], nodes)
+numbered_axioms first (axiom' ∷ axioms) nodes =
+    let one = numbered_axiom first axiom' nodes in
+    let others = numbered_axioms (in_32_bits (first + part_count axiom')) axioms one.1 in
     (one.0 ∷ others.0, others.1)
+
+-- the names in the expressions have nodes whose numbers fit in 32 bits
+abbrev pub AreAllShort : List Expr → Type 0
+AreAllShort [] = ⊤
+AreAllShort (expr ∷ exprs) = AreNamesShort (tree_of expr) × AreAllShort exprs
+
+abbrev pub AreAxiomsShort : List Axiom → Type 0
+AreAxiomsShort [] = ⊤
+AreAxiomsShort (axiom' ∷ axioms) = AreAllShort (expressions axiom') × AreAxiomsShort axioms
