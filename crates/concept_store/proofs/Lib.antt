@@ -6,3 +6,4 @@ pub mod AxiomLaws
 pub mod RoleLaws
 pub mod OverLaws
 pub mod MeaningLaws
+pub mod NodeForLaws

@@ -2,10 +2,12 @@
 #![tactic(auto)]
 
 mod axioms;
+mod build;
 mod number;
 mod roles;
 mod store;
 mod types;
 
+pub use build::build_store;
 pub use store::Store;
 pub use types::{Node, NodeAxiom, RoleNode, StoreFault};

@@ -1,6 +1,7 @@
 -- How the code numbers expressions one after the other.
-use Rattle.std.specs.Prelude.{ℕ, ◌+◌, ◌-◌, ◌^◌, ◌<◌, min, if◌then◌else◌, List, [], ◌∷◌, ◌++◌, fold, ⊤}
+use Rattle.std.specs.Prelude.{ℕ, ◌+◌, ◌-◌, ◌^◌, ◌<◌, min, if◌then◌else◌, List, [], ◌∷◌, ◌++◌, fold, Option, position, ⊤}
 use Rattle.std.specs.List.{list_any, position_or_len}
+use Rattle.std.specs.Option.{option_and_then}
 use Rattle.el_logic.specs.declared.types.Expr.{Expr}
 use Rattle.el_logic.specs.declared.types.Axiom.{Axiom}
 use Rattle.el_logic.specs.declared.types.Axiom.TheVariants as A
@@ -9,7 +10,7 @@ use Rattle.concept_store.specs.declared.types.Node.TheVariants.{And, Exists}
 use Rattle.concept_store.specs.declared.types.NodeAxiom.{NodeAxiom}
 use Rattle.concept_store.specs.declared.types.NodeAxiom.TheVariants.{SubClass, Equivalent, Disjoint, SubRole, EquivalentRoles, Transitive, Reflexive, Domain}
 use Rattle.concept_store.specs.Trees.{Tree, thing, nothing, name, both, some, tree_of}
-use Rattle.concept_store.specs.Nodes.{same_node, expressions, part_count}
+use Rattle.concept_store.specs.Nodes.{same_node, expressions, part_count, node_for}
 
 -- the nodes, and one more unless it is among them
 abbrev pub with_node : List Node → Node → List Node
@@ -84,3 +85,10 @@ AreAllShort (expr ∷ exprs) = AreNamesShort (tree_of expr) × AreAllShort exprs
 abbrev pub AreAxiomsShort : List Axiom → Type 0
 AreAxiomsShort [] = ⊤
 AreAxiomsShort (axiom' ∷ axioms) = AreAllShort (expressions axiom') × AreAxiomsShort axioms
+
+-- the node of the intersection of what a node stands for with an expression, if there are both
+abbrev pub node_both : List Node → Option ℕ → Expr → Option ℕ
+node_both nodes whole operand =
+    option_and_then
+    (λ a. option_and_then (λ b. position (same_node (And a b)) nodes) (node_for nodes (tree_of operand)))
+    whole
