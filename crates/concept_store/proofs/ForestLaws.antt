@@ -1,16 +1,16 @@
 -- Lists of trees that have the parts of each tree, and their nodes.
-use Rattle.std.proofs.Common.{◌≡◌, ℕ, zero, suc, ◌+◌, ◌<◌, ◌≤◌, Bool, true, false, not, cond, ◌&&◌, ◌||◌, List, [], ◌∷◌, ◌++◌, length, map, fold, get_or, Some, slice_get, refl, sym, ap, subst, ◌∙◌, true≢false, arith, length-append, append_assoc}
+use Rattle.std.proofs.Common.{◌≡◌, ℕ, suc, ◌+◌, ◌<◌, Bool, true, false, not, cond, ◌&&◌, ◌||◌, List, [], ◌∷◌, ◌++◌, length, map, Some, slice_get, refl, sym, ap, subst, ◌∙◌, arith, length-append, append_assoc}
 use Rattle.std.specs.Prelude.{◌==◌, if◌then◌else◌, ⊤}
-use Rattle.std.specs.List.{list_any, position_or_len, range_with_len}
+use Rattle.std.specs.List.{list_any, position_or_len}
 use Rattle.std.specs.Cmp.{both_ways}
 use Rattle.std.proofs.lemmas.Bool.{eqb-true, eq-eqb}
 use Rattle.std.proofs.lemmas.List.{append-nil}
-use Rattle.std.proofs.lemmas.Option.{slice_get_within, same_Some, none-some}
+use Rattle.std.proofs.lemmas.Option.{slice_get_within, same_Some}
 use Rattle.concept_store.specs.declared.types.Node.{Node}
-use Rattle.concept_store.specs.declared.types.Node.TheVariants.{Top, Bottom, Class, And, Exists}
+use Rattle.concept_store.specs.declared.types.Node.TheVariants.{And, Exists}
 use Rattle.concept_store.specs.Trees.{Tree, thing, nothing, name, both, some, same_tree, place_of, with_tree}
 use Rattle.concept_store.specs.Nodes.{same_node, names_of, node_in, nodes_over}
-use Rattle.concept_store.specs.Inside.Numbering.{with_node, added}
+use Rattle.concept_store.specs.Inside.Numbering.{added}
 use Rattle.concept_store.proofs.TreeLaws.{same_tree_equal, same_tree_itself, at_place, place_first, place_kept, found_place, lost_place, added_place, only_added}
 
 -- the tree is among the trees
@@ -48,8 +48,8 @@ parts_kept trees more (name class) has = tt
 same_place : (trees : List Tree) (one other : Tree) → Has trees one → Has trees other → (place_of one trees == place_of other trees) ≡ same_tree one other
 same_place trees one other has_one has_other = both_ways (place_of one trees == place_of other trees) (same_tree one other)
     (λ equal. let here = ap (slice_get trees) (eqb-true (place_of one trees) (place_of other trees) equal) in
-        let same = same_Some one other (sym (at_place one trees has_one) ∙ here ∙ at_place other trees has_other) in
-        ap (same_tree one) (sym same) ∙ same_tree_itself one)
+    let same = same_Some one other (sym (at_place one trees has_one) ∙ here ∙ at_place other trees has_other) in
+    ap (same_tree one) (sym same) ∙ same_tree_itself one)
     (λ equal. eq-eqb (place_of one trees) (place_of other trees) (ap (λ t. place_of t trees) (same_tree_equal one other equal)))
 
 -- two trees whose parts are there have one node exactly where they are the same

@@ -7,3 +7,4 @@ pub mod RoleLaws
 pub mod OverLaws
 pub mod MeaningLaws
 pub mod NodeForLaws
+pub mod BuildLaws

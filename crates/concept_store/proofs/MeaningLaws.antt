@@ -1,5 +1,5 @@
 -- An expression has the members of its tree, and its node has them in a reading.
-use Rattle.std.proofs.Common.{◌≡◌, ℕ, ◌+◌, ◌<◌, ◌≤◌, List, [], ◌∷◌, length, map, get_or, All, Contains, arith, subst, sym, ap, refl, ◌∙◌, ⊎_elim}
+use Rattle.std.proofs.Common.{◌≡◌, ℕ, ◌+◌, ◌<◌, List, [], ◌∷◌, length, map, get_or, All, Contains, arith, subst, sym, ap, ◌∙◌, ⊎_elim}
 use Rattle.std.specs.Prelude.{◌↔◌, ⊤}
 use Rattle.std.specs.Option.{option_map}
 use Rattle.std.proofs.Math.ListN.{get_or-eq_default}
@@ -16,7 +16,7 @@ use Rattle.el_logic.specs.Meaning as L
 use Rattle.concept_store.specs.Trees.{Tree, thing, nothing, name, both, some, tree_of, intersection_of, folded, IsTreeOver, place_of}
 use Rattle.concept_store.specs.Nodes.{IsNode, expressions, node_in, nodes_over, number_in, over, all_over, part_count}
 use Rattle.concept_store.specs.Roles.{IsOver}
-use Rattle.concept_store.specs.Reading.{Reading, IsIn, AreLinked, IsReadingOf, IsWithin, Reaches, AreApart, HoldsIn}
+use Rattle.concept_store.specs.Reading.{Reading, IsIn, IsReadingOf, IsWithin, Reaches, AreApart, HoldsIn}
 use Rattle.concept_store.specs.Inside.InTrees.{InTree}
 use Rattle.concept_store.proofs.TreeLaws.{at_place}
 use Rattle.concept_store.proofs.ForestLaws.{Has, IsForest}
@@ -159,7 +159,7 @@ module _ (classes properties : ℕ) (i : Interp) (m : Reading) (trees : List Tre
   apart_in [] known h = tt
   apart_in (e ∷ es) known h = (
     each_in (λ f. (x : ℕ) → IsMember i x e → ¬ (IsMember i x f)) (λ d. (x : ℕ) → IsIn m (number_in trees e) x → ¬ (IsIn m d x))
-    (λ f kf apart x p q. apart x (expr_in e known.0 x p) (expr_in f kf x q)) es known.1 h.0,
+        (λ f kf apart x p q. apart x (expr_in e known.0 x p) (expr_in f kf x q)) es known.1 h.0,
     apart_in es known.1 h.1,
   )
 
@@ -167,7 +167,7 @@ module _ (classes properties : ℕ) (i : Interp) (m : Reading) (trees : List Tre
   apart_out [] known h = tt
   apart_out (e ∷ es) known h = (
     each_out (λ f. (x : ℕ) → IsMember i x e → ¬ (IsMember i x f)) (λ d. (x : ℕ) → IsIn m (number_in trees e) x → ¬ (IsIn m d x))
-    (λ f kf apart x p q. apart x (expr_out e known.0 x p) (expr_out f kf x q)) es known.1 h.0,
+        (λ f kf apart x p q. apart x (expr_out e known.0 x p) (expr_out f kf x q)) es known.1 h.0,
     apart_out es known.1 h.1,
   )
 

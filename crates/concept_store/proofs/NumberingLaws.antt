@@ -1,26 +1,18 @@
 -- The numbers that the code gives are places in the list of trees.
-use Rattle.std.proofs.Common.{◌≡◌, ℕ, zero, suc, ◌+◌, ◌<◌, ◌≤◌, Bool, true, false, not, cond, List, [], ◌∷◌, ◌++◌, length, map, fold, Some, slice_get, refl, sym, ap, subst, ◌∙◌, arith, length-append, append_assoc, All}
-use Rattle.std.specs.Prelude.{◌==◌, ⊤}
-use Rattle.std.specs.List.{position_or_len, range_with_len}
+use Rattle.std.proofs.Common.{◌≡◌, ℕ, zero, suc, ◌+◌, ◌<◌, Bool, true, false, not, cond, List, [], ◌∷◌, ◌++◌, length, map, refl, sym, ap, subst, ◌∙◌, arith, length-append, append_assoc}
+use Rattle.std.specs.Prelude.{◌==◌}
+use Rattle.std.specs.List.{range_with_len}
 use Rattle.std.proofs.lemmas.Bool.{eq-eqb, eqb-true}
 use Rattle.std.proofs.lemmas.List.{append-nil}
-use Rattle.std.proofs.lemmas.List.Elements.{All-head, All-tail}
 use Rattle.std.proofs.lemmas.List.Sums.{fold-append}
 use Rattle.std.proofs.lemmas.List.FromFn.{length-map-range_with_len}
-use Rattle.std.proofs.lemmas.Option.{slice_get_within, same_Some, none-some}
-use Rattle.el_logic.specs.declared.types.Expr.{Expr}
-use Rattle.el_logic.specs.declared.types.Axiom.{Axiom}
-use Rattle.el_logic.specs.declared.types.Axiom.TheVariants as A
 use Rattle.concept_store.specs.declared.types.Node.{Node}
 use Rattle.concept_store.specs.declared.types.Node.TheVariants.{And, Exists}
-use Rattle.concept_store.specs.declared.types.NodeAxiom.{NodeAxiom}
-use Rattle.concept_store.specs.declared.types.NodeAxiom.TheVariants.{SubClass, Equivalent, Disjoint, Domain}
-use Rattle.concept_store.specs.Trees.{Tree, thing, nothing, name, both, some, tree_of, compounds, IsTreeOver, same_tree, place_of, with_tree, with_trees}
-use Rattle.concept_store.specs.Nodes.{expressions, compounds_of, compounds_in, names_of, node_in, nodes_over, number_in, over}
-use Rattle.concept_store.specs.Roles.{IsOver}
-use Rattle.concept_store.specs.Inside.Numbering.{added, numbered, numbered_each, numbered_axiom, numbered_axioms}
-use Rattle.concept_store.proofs.TreeLaws.{place_kept, at_place}
-use Rattle.concept_store.proofs.ForestLaws.{Has, HasParts, IsForest, IsAdded, has_kept, added_is}
+use Rattle.concept_store.specs.Trees.{Tree, thing, nothing, name, both, some, compounds, IsTreeOver, place_of, with_tree, with_trees}
+use Rattle.concept_store.specs.Nodes.{names_of, node_in, nodes_over}
+use Rattle.concept_store.specs.Inside.Numbering.{added, numbered}
+use Rattle.concept_store.proofs.TreeLaws.{place_kept}
+use Rattle.concept_store.proofs.ForestLaws.{Has, IsForest, IsAdded, has_kept, added_is}
 
 -- class names stand in the order of their numbers
 place_of_name : (a n k : ℕ) → k < n → place_of (name (a + k)) (map name (range_with_len a n)) ≡ k
@@ -85,14 +77,14 @@ numbered_is classes roles (both one other) trees forest names =
     let kept : place_of one end ≡ place_of one mid = ap (place_of one) right.grows ∙ place_kept one mid right.more left.has in
     let has_one : Has end one = subst (λ ts. Has ts one) (sym right.grows) (has_kept mid right.more one left.has) in
     let first : numbered (both one other) (nodes_over trees) ≡ added (And (place_of one mid) (numbered other (nodes_over mid)).0) (numbered other (nodes_over mid)).1 =
-        ap (λ (w : ℕ × List Node). added (And w.0 (numbered other w.1).0) (numbered other w.1).1) left.same in
+    ap (λ (w : ℕ × List Node). added (And w.0 (numbered other w.1).0) (numbered other w.1).1) left.same in
     let second : added (And (place_of one mid) (numbered other (nodes_over mid)).0) (numbered other (nodes_over mid)).1 ≡ added (And (place_of one mid) (place_of other end)) (nodes_over end) =
-        ap (λ (w : ℕ × List Node). added (And (place_of one mid) w.0) w.1) right.same in
+    ap (λ (w : ℕ × List Node). added (And (place_of one mid) w.0) w.1) right.same in
     let third : added (And (place_of one mid) (place_of other end)) (nodes_over end) ≡ added (And (place_of one end) (place_of other end)) (nodes_over end) =
-        ap (λ n. added (And n (place_of other end)) (nodes_over end)) (sym kept) in
+    ap (λ n. added (And n (place_of other end)) (nodes_over end)) (sym kept) in
     let last = added_is classes end right.forest (both one other) (has_one, right.has) in
     let all : with_trees trees (compounds (both one other)) ≡ with_tree end (both one other) =
-        fold-append with_tree trees (compounds one ++ compounds other) (both one other ∷ []) ∙ ap (λ ts. with_tree ts (both one other)) (fold-append with_tree trees (compounds one) (compounds other)) in
+    fold-append with_tree trees (compounds one ++ compounds other) (both one other ∷ []) ∙ ap (λ ts. with_tree ts (both one other)) (fold-append with_tree trees (compounds one) (compounds other)) in
     subst (λ new. IsAdded classes trees new (both one other) (numbered (both one other) (nodes_over trees))) (sym all)
     (subst (IsAdded classes trees (with_tree end (both one other)) (both one other)) (sym (first ∙ second ∙ third))
     (then_added classes trees mid (with_tree end (both one other)) (both one other) (added (node_in end (both one other)) (nodes_over end)) left.more left.grows
@@ -101,7 +93,7 @@ numbered_is classes roles (some role filler) trees forest names =
     let mid = with_trees trees (compounds filler) in
     let inner = numbered_is classes roles filler trees forest names.1 in
     let first : numbered (some role filler) (nodes_over trees) ≡ added (Exists role (place_of filler mid)) (nodes_over mid) =
-        ap (λ (w : ℕ × List Node). added (Exists role w.0) w.1) inner.same in
+    ap (λ (w : ℕ × List Node). added (Exists role w.0) w.1) inner.same in
     let last = added_is classes mid inner.forest (some role filler) inner.has in
     let all : with_trees trees (compounds (some role filler)) ≡ with_tree mid (some role filler) = fold-append with_tree trees (compounds filler) (some role filler ∷ []) in
     subst (λ new. IsAdded classes trees new (some role filler) (numbered (some role filler) (nodes_over trees))) (sym all)

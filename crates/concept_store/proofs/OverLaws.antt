@@ -1,5 +1,5 @@
 -- Numbering expressions and axioms gives their numbers in the list of all trees.
-use Rattle.std.proofs.Common.{◌≡◌, ℕ, ◌+◌, ◌^◌, ◌<◌, ◌≤◌, List, [], ◌∷◌, ◌++◌, length, map, get_or, refl, sym, ap, subst, ◌∙◌, arith, append_assoc, All}
+use Rattle.std.proofs.Common.{◌≡◌, ℕ, ◌+◌, ◌^◌, ◌<◌, List, [], ◌∷◌, ◌++◌, map, get_or, refl, sym, ap, subst, ◌∙◌, arith, append_assoc, All}
 use Rattle.std.specs.Prelude.{⊤}
 use Rattle.std.proofs.lemmas.List.{append-nil}
 use Rattle.std.proofs.lemmas.List.Elements.{All-head, All-tail}
@@ -13,7 +13,7 @@ use Rattle.concept_store.specs.declared.types.NodeAxiom.TheVariants.{SubClass, E
 use Rattle.concept_store.specs.Trees.{Tree, tree_of, compounds, IsTreeOver, place_of, with_tree, with_trees}
 use Rattle.concept_store.specs.Nodes.{expressions, compounds_of, compounds_in, nodes_over, number_in, over, all_over, part_count, parts_within}
 use Rattle.concept_store.specs.Roles.{IsOver}
-use Rattle.concept_store.specs.Inside.Numbering.{in_32_bits, numbered, numbered_each, numbered_axiom, numbered_axioms}
+use Rattle.concept_store.specs.Inside.Numbering.{in_32_bits, numbered_each, numbered_axiom, numbered_axioms}
 use Rattle.concept_store.proofs.TreeLaws.{place_kept}
 use Rattle.concept_store.proofs.ForestLaws.{Has, IsForest, has_kept}
 use Rattle.concept_store.proofs.NumberingLaws.{numbered_is}
@@ -68,9 +68,9 @@ each_is classes roles (expr ∷ exprs) trees forest names =
     let all : with_trees trees (compounds_of (expr ∷ exprs)) ≡ end = fold-append with_tree trees (compounds (tree_of expr)) (compounds_of exprs) in
     let kept : place_of (tree_of expr) end ≡ place_of (tree_of expr) mid = ap (place_of (tree_of expr)) rest.grows ∙ place_kept (tree_of expr) mid rest.more one.has in
     let first : numbered_each (expr ∷ exprs) (nodes_over trees) ≡ (place_of (tree_of expr) mid ∷ (numbered_each exprs (nodes_over mid)).0, (numbered_each exprs (nodes_over mid)).1) =
-        ap (λ (w : ℕ × List Node). (w.0 ∷ (numbered_each exprs w.1).0, (numbered_each exprs w.1).1)) one.same in
+    ap (λ (w : ℕ × List Node). (w.0 ∷ (numbered_each exprs w.1).0, (numbered_each exprs w.1).1)) one.same in
     let second : (place_of (tree_of expr) mid ∷ (numbered_each exprs (nodes_over mid)).0, (numbered_each exprs (nodes_over mid)).1) ≡ (place_of (tree_of expr) end ∷ map (number_in end) exprs, nodes_over end) =
-        λ i. (sym kept i ∷ (rest.same i).0, (rest.same i).1) in
+    λ i. (sym kept i ∷ (rest.same i).0, (rest.same i).1) in
     subst (λ new. IsStep classes trees new (expr ∷ exprs) (map (number_in new) (expr ∷ exprs)) (numbered_each (expr ∷ exprs) (nodes_over trees))) (sym all)
     (record {
       same = first ∙ second;
@@ -150,13 +150,13 @@ axioms_are classes roles first (axiom' ∷ axioms) trees forest are =
     let all : with_trees trees (compounds_in (axiom' ∷ axioms)) ≡ end = fold-append with_tree trees (compounds_of (expressions axiom')) (compounds_in axioms) in
     let kept : over end first axiom' ≡ over mid first axiom' = ap (λ ts. over ts first axiom') rest.grows ∙ over_kept mid rest.more first axiom' one.has in
     let begun : numbered_axioms first (axiom' ∷ axioms) (nodes_over trees) ≡ (over mid first axiom' ∷ (numbered_axioms next axioms (nodes_over mid)).0, (numbered_axioms next axioms (nodes_over mid)).1) =
-        ap (λ (w : NodeAxiom × List Node). (w.0 ∷ (numbered_axioms next axioms w.1).0, (numbered_axioms next axioms w.1).1)) one.same in
+    ap (λ (w : NodeAxiom × List Node). (w.0 ∷ (numbered_axioms next axioms w.1).0, (numbered_axioms next axioms w.1).1)) one.same in
     subst (λ new. AreNumbered classes trees new first (axiom' ∷ axioms) (numbered_axioms first (axiom' ∷ axioms) (nodes_over trees))) (sym all)
     (record {
       over_is = λ small.
           let exact : next ≡ first + part_count axiom' = omega arith in
           let same : (numbered_axioms next axioms (nodes_over mid)).0 ≡ all_over end (first + part_count axiom') axioms =
-              rest.over_is (omega arith) ∙ ap (λ n. all_over end n axioms) exact in
+          rest.over_is (omega arith) ∙ ap (λ n. all_over end n axioms) exact in
           ap (λ (w : List NodeAxiom × List Node). w.0) begun ∙ (λ i. sym kept i ∷ same i);
       nodes_are = ap (λ (w : List NodeAxiom × List Node). w.1) begun ∙ rest.nodes_are;
       forest = rest.forest;

@@ -29,7 +29,7 @@ fault_names names left right most found =
 -- and so are too many with the parts of LEFT
 pub fault_left : (names : ℕ) (left right : List Axiom) (most : ℕ) (found : StoreFault) (roles : List RoleNode) → roles ≡ map Named (range_with_len 0 names) →
     IsStoreFault ⊥ (most < length (roles ++ parts_in Side.Left 1 left)) found → IsStoreFault ⊥ (most < length (roles_of names left right)) found
-fault_left names left right most found roles same = 
+fault_left names left right most found roles same =
     let all = map Named (range_with_len 0 names) in
     let one = parts_in Side.Left 1 left in
     fault_more most (length (roles ++ one)) (length (roles_of names left right))
@@ -49,5 +49,11 @@ next_part initial now new side number k so_far one_more =
 pub full : (initial now : List RoleNode) (side : Side) (number k count most : ℕ) → now ≡ initial ++ map (Part side number) (range_with_len 2 k) → k < count → most ≤ length now →
     most < length (initial ++ map (Part side number) (range_with_len 2 count))
 full initial now side number k count most so_far within no_room =
-    omega (arith, ap length so_far, length-append initial (map (Part side number) (range_with_len 2 k)), length-append initial (map (Part side number) (range_with_len 2 count)),
-      length-map-range_with_len (Part side number) 2 k, length-map-range_with_len (Part side number) 2 count)
+    omega (
+      arith,
+      ap length so_far,
+      length-append initial (map (Part side number) (range_with_len 2 k)),
+      length-append initial (map (Part side number) (range_with_len 2 count)),
+      length-map-range_with_len (Part side number) 2 k,
+      length-map-range_with_len (Part side number) 2 count,
+    )

@@ -1,11 +1,10 @@
 -- Trees and their places in a list.
-use Rattle.std.proofs.Common.{◌≡◌, ℕ, zero, suc, ◌+◌, ◌<◌, ◌≤◌, Bool, true, false, not, cond, ◌&&◌, ◌||◌, List, [], ◌∷◌, ◌++◌, length, map, fold, get_or, Some, slice_get, refl, sym, ap, subst, ◌∙◌, true≢false, arith, eqb, length-append, inl, inr, ◌⊎◌}
-use Rattle.std.specs.Prelude.{◌==◌, if◌then◌else◌}
-use Rattle.std.specs.List.{list_any, position_or_len, range_with_len}
-use Rattle.std.specs.Cmp.{both_ways}
+use Rattle.std.proofs.Common.{◌≡◌, ℕ, zero, suc, ◌+◌, ◌<◌, ◌≤◌, Bool, true, false, not, cond, ◌||◌, List, [], ◌∷◌, ◌++◌, length, Some, slice_get, refl, sym, ap, ◌∙◌, true≢false, arith}
+use Rattle.std.specs.Prelude.{◌==◌}
+use Rattle.std.specs.List.{list_any}
 use Rattle.std.proofs.lemmas.Bool.{eqb-true, eq-eqb, and_from, and_parts}
-use Rattle.std.proofs.lemmas.Option.{slice_get-get_or, slice_get_within, same_Some, none-some}
-use Rattle.concept_store.specs.Trees.{Tree, thing, nothing, name, both, some, same_tree, place_of, with_tree, with_trees}
+use Rattle.std.proofs.lemmas.Option.{same_Some, none-some}
+use Rattle.concept_store.specs.Trees.{Tree, thing, nothing, name, both, some, same_tree, place_of}
 
 -- trees that pass the test are equal
 pub same_tree_equal : (one other : Tree) → same_tree one other ≡ true → one ≡ other
@@ -65,7 +64,6 @@ place_first tree (first ∷ trees) (suc n) at = by (same_tree tree first) (place
     by : (b : Bool) → place_of tree trees ≤ n → cond (not b) (1 + place_of tree trees) 0 ≤ suc n
     by true rest = omega arith
     by false rest = omega arith
-
 
 -- a tree keeps its place when trees are added
 pub place_kept : (tree : Tree) (trees more : List Tree) → place_of tree trees < length trees → place_of tree (trees ++ more) ≡ place_of tree trees

@@ -8,7 +8,6 @@ use Rattle.concept_store.specs.declared.types.Node.{Node}
 use Rattle.concept_store.specs.declared.types.NodeAxiom.{NodeAxiom}
 use Rattle.concept_store.specs.declared.types.NodeAxiom.TheVariants.{SubClass, Equivalent, Disjoint, SubRole, EquivalentRoles, Transitive, Reflexive, Domain}
 use Rattle.concept_store.specs.Nodes.{IsNode}
-use Rattle.concept_store.specs.Roles.{Numbered}
 
 -- which of the numbers below a size are in each node, and which two of them each role relates
 pub record Reading : Type 0 where

@@ -59,16 +59,26 @@ pub fn build_store(
         Ok(nodes) => nodes,
         Err(fault) => return Err(fault),
     };
-    let (left_over, next) =
-        match number_axioms(alloc, &mut nodes, left.as_slice(), roles, most_nodes) {
-            Ok(found) => found,
-            Err(fault) => return Err(fault),
-        };
-    let (right_over, _) =
-        match number_axioms(alloc, &mut nodes, right.as_slice(), next, most_nodes) {
-            Ok(found) => found,
-            Err(fault) => return Err(fault),
-        };
+    let (left_over, next) = match number_axioms(
+        alloc,
+        &mut nodes,
+        left.as_slice(),
+        roles,
+        most_nodes,
+    ) {
+        Ok(found) => found,
+        Err(fault) => return Err(fault),
+    };
+    let (right_over, _) = match number_axioms(
+        alloc,
+        &mut nodes,
+        right.as_slice(),
+        next,
+        most_nodes,
+    ) {
+        Ok(found) => found,
+        Err(fault) => return Err(fault),
+    };
     match list_roles(alloc, roles, left.as_slice(), right.as_slice(), most_roles) {
         Ok(roles) => Ok(Store {
             nodes,

@@ -12,10 +12,10 @@ use std::marker::Model;
 /// Two ontologies by numbers: their nodes and roles, and their axioms over these.
 #[derive(Debug, Drop)]
 pub struct Store {
-    pub nodes: IndexSet<Node>,
-    pub roles: Vec<RoleNode>,
-    pub left: Vec<NodeAxiom>,
-    pub right: Vec<NodeAxiom>,
+    pub(crate) nodes: IndexSet<Node>,
+    pub(crate) roles: Vec<RoleNode>,
+    pub(crate) left: Vec<NodeAxiom>,
+    pub(crate) right: Vec<NodeAxiom>,
 }
 
 impl Model for Store {
@@ -25,10 +25,10 @@ impl Model for Store {
     ghost Value = { Numbered };
 
     ghost view = { λ s. record {
-        nodes = s.nodes.keys;
-        roles = s.roles.items;
-        left = s.left.items;
-        right = s.right.items;
+      nodes = s.nodes.keys;
+      roles = s.roles.items;
+      left = s.left.items;
+      right = s.right.items;
     } };
 
     ghost invariant = { λ s. (length s.nodes.keys < 2 ^ 32) × (length s.roles.items < 2 ^ 32) };

@@ -1,5 +1,5 @@
 -- What a node writes to a hasher.
-use Rattle.std.specs.Prelude.{ℕ, List, ◌++◌}
+use Rattle.std.specs.Prelude.{◌++◌}
 use Rattle.std.specs.Hash as fed
 use Rattle.std.specs.Hash.{HashWrites}
 use Rattle.concept_store.specs.declared.types.Node.{Node}

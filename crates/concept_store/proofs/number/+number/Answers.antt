@@ -58,17 +58,17 @@ returns-in-Err-number-2-clause-fault t c short =
 pub returns-in-Ok-number-2-clause-number : goal.returns-in-Ok-number-2-clause-number
 returns-in-Ok-number-2-clause-number t c =
     let same = exists_is c.args.expr.now c.get.result.now c.in-Exists.role c.args.nodes.now.keys c.in-Ok-number-2.inner c.number-in-Exists.new.nodes.keys
-        (c.in-Exists.is ∙ ap (E.Exists c.in-Exists.role) (sym c.get.ensures)) c.in-Ok-number-2.ensures.number c.in-Ok-number-2.ensures.nodes in
+    (c.in-Exists.is ∙ ap (E.Exists c.in-Exists.role) (sym c.get.ensures)) c.in-Ok-number-2.ensures.number c.in-Ok-number-2.ensures.nodes in
     subst (λ (w : ℕ × List Node). IfOk c.add_node-in-Exists.result (λ n. n ≡ w.0)) same c.add_node-in-Exists.ensures.number
 
 pub returns-in-Ok-number-2-clause-nodes : goal.returns-in-Ok-number-2-clause-nodes
 returns-in-Ok-number-2-clause-nodes t c =
     let same = exists_is c.args.expr.now c.get.result.now c.in-Exists.role c.args.nodes.now.keys c.in-Ok-number-2.inner c.number-in-Exists.new.nodes.keys
-        (c.in-Exists.is ∙ ap (E.Exists c.in-Exists.role) (sym c.get.ensures)) c.in-Ok-number-2.ensures.number c.in-Ok-number-2.ensures.nodes in
+    (c.in-Exists.is ∙ ap (E.Exists c.in-Exists.role) (sym c.get.ensures)) c.in-Ok-number-2.ensures.number c.in-Ok-number-2.ensures.nodes in
     subst (λ (w : ℕ × List Node). OnOk c.add_node-in-Exists.result (c.add_node-in-Exists.new.nodes.keys ≡ w.1)) same c.add_node-in-Exists.ensures.nodes
 
 pub returns-in-Ok-number-2-clause-fault : goal.returns-in-Ok-number-2-clause-fault
 returns-in-Ok-number-2-clause-fault t c short =
     let same = exists_is c.args.expr.now c.get.result.now c.in-Exists.role c.args.nodes.now.keys c.in-Ok-number-2.inner c.number-in-Exists.new.nodes.keys
-        (c.in-Exists.is ∙ ap (E.Exists c.in-Exists.role) (sym c.get.ensures)) c.in-Ok-number-2.ensures.number c.in-Ok-number-2.ensures.nodes in
+    (c.in-Exists.is ∙ ap (E.Exists c.in-Exists.role) (sym c.get.ensures)) c.in-Ok-number-2.ensures.number c.in-Ok-number-2.ensures.nodes in
     subst (λ (w : ℕ × List Node). IfErr c.add_node-in-Exists.result (IsStoreFault (c.args.most < length w.1) ⊥)) same c.add_node-in-Exists.ensures.fault

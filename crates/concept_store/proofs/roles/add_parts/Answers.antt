@@ -1,4 +1,4 @@
-use Rattle.std.proofs.Common.{◌≡◌, ◌≤◌, ◌++◌, length, arith, ap}
+use Rattle.std.proofs.Common.{arith}
 use Rattle.concept_store.proofs.RoleLaws.{next_part, full}
 use Rattle.concept_store.proofs.roles.add_parts.Goals as goal
 

@@ -1,4 +1,4 @@
-use Rattle.concept_store.proofs.RoleLaws.{fault_names, fault_left}
+use Rattle.concept_store.proofs.RoleLaws.{fault_names}
 use Rattle.concept_store.proofs.roles.list_roles.Goals as goal
 
 pub returns-in-Err-clause-fault : goal.returns-in-Err-clause-fault
