@@ -156,7 +156,8 @@ impl Core {
         ensures marks { self.new ≡ (on_yes self.old rank seen).marks }
         ensures reply { result ≡ (on_yes self.old rank seen).reply }
     {
-        if self.marks.is_decided(rank) {
+        let decided = self.marks.is_decided(rank);
+        if decided {
             return Reply::Late;
         }
         let count = self.marks.kept_count();

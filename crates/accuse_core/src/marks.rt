@@ -88,27 +88,27 @@ fn list(kept: &mut Vec<u32>, rank: u32)
 }
 
 // Keeps a rank past all that are kept.
-fn keep(by_rank: &mut Vec<Mark>, kept: &mut Vec<u32>, rank: u32)
-    requires inside { rank < length by_rank.old.items }
-    requires tracked { AreTracked by_rank.old.items rank kept.old.items (vec_capacity kept.old) }
-    ensures marks { by_rank.new.items ≡ with_kept by_rank.old.items rank }
-    ensures tracked { AreTracked by_rank.new.items (rank + 1) kept.new.items (vec_capacity kept.new) }
+fn keep(marks: &mut Vec<Mark>, kept: &mut Vec<u32>, rank: u32)
+    requires inside { rank < length marks.old.items }
+    requires tracked { AreTracked marks.old.items rank kept.old.items (vec_capacity kept.old) }
+    ensures marked { marks.new.items ≡ with_kept marks.old.items rank }
+    ensures tracked { AreTracked marks.new.items (rank + 1) kept.new.items (vec_capacity kept.new) }
 {
-    by_rank[rank as usize] = Mark::Kept;
+    marks[rank as usize] = Mark::Kept;
     list(kept, rank);
 }
 
-fn keep_unless_removed(by_rank: &mut Vec<Mark>, kept: &mut Vec<u32>, rank: u32)
-    requires inside { rank < length by_rank.old.items }
-    requires tracked { AreTracked by_rank.old.items rank kept.old.items (vec_capacity kept.old) }
-    ensures marks { by_rank.new.items
-        ≡ slice_set by_rank.old.items rank (kept_unless_removed (mark_at by_rank.old.items rank)) }
-    ensures tracked { AreTracked by_rank.new.items (rank + 1) kept.new.items (vec_capacity kept.new) }
+fn keep_unless_removed(marks: &mut Vec<Mark>, kept: &mut Vec<u32>, rank: u32)
+    requires inside { rank < length marks.old.items }
+    requires tracked { AreTracked marks.old.items rank kept.old.items (vec_capacity kept.old) }
+    ensures marked { marks.new.items
+        ≡ slice_set marks.old.items rank (kept_unless_removed (mark_at marks.old.items rank)) }
+    ensures tracked { AreTracked marks.new.items (rank + 1) kept.new.items (vec_capacity kept.new) }
 {
-    if is_removed(by_rank[rank as usize]) {
+    if is_removed(marks[rank as usize]) {
         return;
     }
-    keep(by_rank, kept, rank);
+    keep(marks, kept, rank);
 }
 
 impl Marks {

@@ -14,6 +14,6 @@ pub loop-ahead-preserved : goal.loop-ahead-preserved
 loop-ahead-preserved c =
     let within : c.args.front + c.loop-ahead.ahead < length c.args.self.now = omega arith in
     record {
-      marks = block_step c.args.self.now _ _ c.args.front c.loop-ahead.ahead within c.loop-ahead.invariant.marks c.keep_unless_removed.ensures.marks;
+      marks = block_step c.args.self.now _ _ c.args.front c.loop-ahead.ahead within c.loop-ahead.invariant.marks c.keep_unless_removed.ensures.marked;
       tracked = tracked_further _ _ _ _ _ (omega arith) c.keep_unless_removed.ensures.tracked;
     }
