@@ -9,6 +9,8 @@ mod places;
 mod records;
 mod rows;
 mod table;
+#[cfg(test)]
+mod tests;
 
 pub use column::Column;
 pub use fault::TableFault;

@@ -1,0 +1,93 @@
+#!/usr/bin/env python3
+"""Reads made documents of one to twenty megabytes, shaped as OWL tools write them: full IRIs and prefixed names,
+annotations, comments, language tags and nested expressions, with some axioms outside the fragment that are left out.
+Prints for each the least seconds of three readings, megabytes a second, nanoseconds a byte, and the peak memory of the
+process so far over the size of the text. The cost of a byte is to stay about the same as texts grow; a text has to be
+made before it is read, so the peak has the text twice.
+"""
+
+from driver import run_driver
+
+DRIVER = """#![tactic(auto)]
+
+use anyhow::Result;
+use ofn_axiom::{Mode, Names, read_document};
+use std::alloc::Global;
+use std::fs;
+use std::time::Instant;
+use text_names::{Limits, NameTable};
+
+fn made(alloc: Global, size: usize) -> Result<Vec<u8>> {
+    let mut text = Vec::with_capacity(alloc, size)?;
+    text.extend_from_slice(b"Prefix(:=<http://example.org/ontology#>)\\nPrefix(owl:=<http://www.w3.org/2002/07/owl#>)\\n\\nOntology(<http://example.org/ontology>\\n\\n".as_slice())?;
+    for i in 0..1_000_000u32 {
+        if text.len() >= size {
+            break;
+        }
+        let above = i / 3;
+        let part = i % 50;
+        let lines = format!(in alloc; "Declaration(Class(<http://example.org/ontology#C{i}>))\\n# Class: <http://example.org/ontology#C{i}> (made class {i})\\n\\nAnnotationAssertion(rdfs:label <http://example.org/ontology#C{i}> \\"made class {i}\\"@en)\\nAnnotationAssertion(rdfs:comment :C{i} \\"a class that was \\\\\\"made\\\\\\" for a bench, with a text of some length\\"^^xsd:string)\\nSubClassOf(<http://example.org/ontology#C{i}> <http://example.org/ontology#C{above}>)\\nSubClassOf(Annotation(rdfs:comment \\"nested\\"@en) :C{i} ObjectSomeValuesFrom(<http://example.org/ontology#part{part}> ObjectIntersectionOf(:C{above} ObjectSomeValuesFrom(:of{part} :C{i}))))\\nDisjointClasses(:C{i} <http://example.org/ontology#D{i}>)\\nSubClassOf(:C{i} ObjectUnionOf(:C{above} :D{i}))\\n\\n")?;
+        text.extend_from_slice(lines.as_str().as_bytes())?;
+    }
+    text.push(b')')?;
+    Ok(text)
+}
+
+fn names(alloc: Global, limits: &Limits) -> Names {
+    Names {
+        classes: NameTable::new(alloc, limits.classes),
+        roles: NameTable::new(alloc, limits.properties),
+    }
+}
+
+// The most kilobytes that the process has held so far.
+fn peak(rt: &HostRuntime) -> Result<u32> {
+    let status = fs::read_to_string(rt, "/proc/self/status")?;
+    for line in status.as_str().lines() {
+        let Some(rest) = line.strip_prefix("VmHWM:") else {
+            continue;
+        };
+        let Some(number) = rest.trim().split(' ').next() else {
+            continue;
+        };
+        return Ok(number.parse::<u32>()?);
+    }
+    Ok(0)
+}
+
+fn measure(rt: &HostRuntime, size: usize) -> Result<()> {
+    let alloc = rt.alloc();
+    let text = made(alloc, size)?;
+    let limits = Limits::standard();
+    let mut least = f64::MAX;
+    let mut axioms = 0;
+    let mut omitted = 0;
+    for _ in 0..3 {
+        let mut held = names(alloc, &limits);
+        let start = Instant::now(rt)?;
+        match read_document(alloc, text.as_slice(), Mode::ElPart, &limits, &mut held) {
+            Ok(document) => {
+                axioms = document.axioms.len();
+                omitted = document.omitted.len();
+            }
+            Err(fault) => println!(rt; "fault: {fault}")?,
+        }
+        least = least.min(start.elapsed(rt)?.as_secs_f64());
+    }
+    let bytes = u32::try_from(text.len())?;
+    let speed = bytes as f64 / least / 1e6;
+    let cost = least * 1e9 / bytes as f64;
+    let memory = peak(rt)? as f64 * 1024.0 / bytes as f64;
+    println!(rt; "{bytes} bytes, {axioms} axioms, {omitted} left out: {least:.4} s, {speed:.1} MB/s, {cost:.1} ns a byte, peak {memory:.1} times the text")?;
+    Ok(())
+}
+
+fn main(rt: HostRuntime) -> Result<()> {
+    for size in [1_000_000usize, 5_000_000, 10_000_000, 20_000_000] {
+        measure(&rt, size)?;
+    }
+    Ok(())
+}
+"""
+
+run_driver("bench_documents", DRIVER, ["ofn_axiom", "text_names"], " ns a byte")

@@ -1,0 +1,3 @@
+-- What only code and proofs cite.
+pub mod Tracking
+pub mod Watching

@@ -1,0 +1,10 @@
+pub mod NumberLaws
+pub mod TreeLaws
+pub mod ForestLaws
+pub mod NumberingLaws
+pub mod AxiomLaws
+pub mod RoleLaws
+pub mod OverLaws
+pub mod MeaningLaws
+pub mod NodeForLaws
+pub mod BuildLaws

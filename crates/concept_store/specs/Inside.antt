@@ -1,0 +1,5 @@
+-- What only the code of this crate and its proofs cite.
+pub mod Hashes
+pub mod SameNodes
+pub mod Numbering
+pub mod InTrees

@@ -1,0 +1,6 @@
+pub mod Trees
+pub mod Nodes
+pub mod Roles
+pub mod Reading
+pub mod Faults
+pub mod Inside

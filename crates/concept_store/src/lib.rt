@@ -1,0 +1,13 @@
+//! The nodes and roles of two ontologies, numbered, and their axioms over these numbers.
+#![tactic(auto)]
+
+mod axioms;
+mod build;
+mod number;
+mod roles;
+mod store;
+mod types;
+
+pub use build::build_store;
+pub use store::Store;
+pub use types::{Node, NodeAxiom, RoleNode, StoreFault};

@@ -1,0 +1,5 @@
+pub mod Parts
+pub mod Layered
+pub mod Copied
+pub mod Growing
+pub mod Over

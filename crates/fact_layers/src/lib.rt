@@ -1,0 +1,11 @@
+//! Tables of facts in layers: a shared base, and a top over it that can be given up.
+#![tactic(auto)]
+
+mod layer;
+mod merge;
+mod shared;
+mod through;
+mod topped;
+
+pub use shared::Base;
+pub use topped::Layers;

@@ -1,0 +1,9 @@
+use Rattle.std.proofs.Common.{◌≡◌, map, length}
+use Rattle.ofn_axiom.specs.Given.{given, after_iris}
+use Rattle.ofn_axiom.proofs.ontology.after_iris.Given as goal
+
+abbrev pub invariant-loop-first : goal.invariant-loop-first
+invariant-loop-first l = after_iris l.left (map (given l.text l.prefixes) l.rest) ≡ after_iris l.most (map (given l.text l.prefixes) l.items)
+
+abbrev pub decreases-loop-first : goal.decreases-loop-first
+decreases-loop-first l = length l.rest

@@ -1,0 +1,6 @@
+pub mod Steps
+pub mod Numbers
+pub mod Taking
+pub mod Given
+pub mod Documents
+pub mod Inside

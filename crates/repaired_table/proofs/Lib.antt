@@ -1,0 +1,4 @@
+pub mod WriteLaws
+pub mod SwapLaws
+pub mod HeadAgain
+pub mod Again
