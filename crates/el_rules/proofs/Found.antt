@@ -1,11 +1,10 @@
 -- Facts that are found in a list, and the nodes that may have a member.
-use Rattle.std.proofs.Common.{◌≡◌, ◌+◌, ◌<◌, ◌≤◌, ◌∙◌, ◌&&◌, ◌==◌, ◌⊎◌, if◌then◌else◌, ℕ, zero, suc, Bool, true, false, List, [], ◌∷◌, Some, length, slice_get, slice_index_or, Contains, refl, sym, ap, subst, inl, inr, ⊎_elim, arith, rules}
-use Rattle.std.specs.List.{list_any}
+use Rattle.std.proofs.Common.{◌≡◌, ◌+◌, ◌<◌, ◌≤◌, ◌∙◌, ◌&&◌, ◌==◌, ◌⊎◌, if◌then◌else◌, ℕ, zero, suc, Bool, true, false, List, [], ◌∷◌, Some, slice_get, Contains, refl, sym, ap, subst, inl, inr, ⊎_elim, arith, rules}
 use Rattle.std.proofs.lemmas.Bool.{and_parts, and_from, eqb-true, eq-eqb}
 use Rattle.std.proofs.Math.Bool.{or-true}
 use Rattle.std.proofs.Math.Nat.{eq-or-lt_of_le}
 use Rattle.std.proofs.lemmas.Map.Views.{Contains-from_any}
-use Rattle.std.proofs.lemmas.Option.{slice_get_within, get_or_from_slice_get, slice_get-get_or, same_Some}
+use Rattle.std.proofs.lemmas.Option.{slice_get-get_or, same_Some}
 use Rattle.fact_table.specs.declared.types.Fact.{Fact}
 use Rattle.fact_table.specs.declared.types.Fact.TheVariants.{Sub, Link}
 use Rattle.el_rules.specs.Closing.{same_fact, has_fact, live_from}
@@ -76,12 +75,12 @@ pub live_at : (facts : List Fact) (start count x n : ℕ) → slice_get (live_fr
 live_at facts start zero x n at = absurd (search rules)
 live_at facts start (suc count) x n at =
     ⊎_elim
-      (λ has. later_live facts start count n (live_at facts (start + 1) count x n
-        (subst (λ b. slice_get (if b then live_from facts (start + 1) count else start ∷ live_from facts (start + 1) count) x ≡ Some n) has at)))
-      (λ hasnt. live_first facts start count x n hasnt
-        (subst (λ b. slice_get (if b then live_from facts (start + 1) count else start ∷ live_from facts (start + 1) count) x ≡ Some n) hasnt at)
-        (λ k later. live_at facts (start + 1) count k n later))
-      (answer (has_fact facts (Sub start 1)))
+    (λ has. later_live facts start count n (live_at facts (start + 1) count x n
+    (subst (λ b. slice_get (if b then live_from facts (start + 1) count else start ∷ live_from facts (start + 1) count) x ≡ Some n) has at)))
+    (λ hasnt. live_first facts start count x n hasnt
+    (subst (λ b. slice_get (if b then live_from facts (start + 1) count else start ∷ live_from facts (start + 1) count) x ≡ Some n) hasnt at)
+    (λ k later. live_at facts (start + 1) count k n later))
+    (answer (has_fact facts (Sub start 1)))
 
 -- a test does not answer yes and no
 pub true_false : {test : Bool} → test ≡ true → test ≡ false → ⊥
@@ -100,16 +99,16 @@ live_here : (facts : List Fact) (start count n : ℕ) → IsLive facts start (su
     → (x : ℕ) × (slice_get (start ∷ live_from facts (start + 1) count) x ≡ Some n)
 live_here facts start count n is later =
     ⊎_elim (λ same. (zero, ap Some same))
-      (λ less. let rest = later (record { from = omega (arith, less); to = omega (arith, is.to); live = is.live }) in (suc rest.0, rest.1))
-      (eq-or-lt_of_le is.from)
+    (λ less. let rest = later (record { from = omega (arith, less); to = omega (arith, is.to); live = is.live }) in (suc rest.0, rest.1))
+    (eq-or-lt_of_le is.from)
 
 -- and each live node is in the list
 pub live_has : (facts : List Fact) (start count n : ℕ) → IsLive facts start count n → (x : ℕ) × (slice_get (live_from facts start count) x ≡ Some n)
 live_has facts start zero n is = absurd (omega (arith, is.from, is.to))
 live_has facts start (suc count) n is =
     ⊎_elim
-      (λ has. let rest = live_has facts (start + 1) count n (live_past facts start count n is (λ same. true_false (subst (λ k. has_fact facts (Sub k 1) ≡ true) same has) is.live)) in
-        (rest.0, subst (λ b. slice_get (if b then live_from facts (start + 1) count else start ∷ live_from facts (start + 1) count) rest.0 ≡ Some n) (sym has) rest.1))
-      (λ hasnt. let here = live_here facts start count n is (λ past. live_has facts (start + 1) count n past) in
-        (here.0, subst (λ b. slice_get (if b then live_from facts (start + 1) count else start ∷ live_from facts (start + 1) count) here.0 ≡ Some n) (sym hasnt) here.1))
-      (answer (has_fact facts (Sub start 1)))
+    (λ has. let rest = live_has facts (start + 1) count n (live_past facts start count n is (λ same. true_false (subst (λ k. has_fact facts (Sub k 1) ≡ true) same has) is.live)) in
+    (rest.0, subst (λ b. slice_get (if b then live_from facts (start + 1) count else start ∷ live_from facts (start + 1) count) rest.0 ≡ Some n) (sym has) rest.1))
+    (λ hasnt. let here = live_here facts start count n is (λ past. live_has facts (start + 1) count n past) in
+    (here.0, subst (λ b. slice_get (if b then live_from facts (start + 1) count else start ∷ live_from facts (start + 1) count) here.0 ≡ Some n) (sym hasnt) here.1))
+    (answer (has_fact facts (Sub start 1)))

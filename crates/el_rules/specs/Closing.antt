@@ -1,5 +1,5 @@
 -- The reading of the nodes that closed facts say: its elements are the nodes that may have a member.
-use Rattle.std.specs.Prelude.{◌≡◌, ℕ, suc, zero, ◌+◌, ◌<◌, Bool, true, false, ◌&&◌, ◌==◌, nat_lt, if◌then◌else◌, List, [], ◌∷◌, length, slice_index_or, ⊤}
+use Rattle.std.specs.Prelude.{◌≡◌, ℕ, suc, zero, ◌+◌, ◌<◌, Bool, false, ◌&&◌, ◌==◌, nat_lt, if◌then◌else◌, List, [], ◌∷◌, length, slice_index_or, ⊤}
 use Rattle.std.specs.List.{list_any}
 use Rattle.concept_store.specs.Nodes.{IsNode}
 use Rattle.concept_store.specs.Reading.{Reading}

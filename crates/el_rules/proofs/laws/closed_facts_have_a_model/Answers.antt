@@ -1,4 +1,4 @@
-use Rattle.std.proofs.Common.{All, Contains}
+use Rattle.std.proofs.Common.{Contains}
 use Rattle.std.proofs.lemmas.List.Elements.{All-contains}
 use Rattle.concept_store.specs.Reading.{HoldsIn}
 use Rattle.fact_table.specs.declared.types.Fact.TheVariants.{Sub}
@@ -13,7 +13,7 @@ returns-clause-reading c nodes axioms facts are closed = reading nodes (Contains
 pub returns-clause-holds : goal.returns-clause-holds
 returns-clause-holds c nodes axioms facts are chained closed =
     all_by (HoldsIn (said_by nodes facts)) axioms
-      (λ said held. holds nodes (Contains axioms) facts closed said (All-contains HasRole axioms said chained held) held)
+    (λ said held. holds nodes (Contains axioms) facts closed said (All-contains HasRole axioms said chained held) held)
 
 pub returns-clause-members : goal.returns-clause-members
 returns-clause-members c nodes axioms facts node closed within absent =
