@@ -1,7 +1,6 @@
 -- The reading that closed facts say is a model.
 use Rattle.std.proofs.Common.{◌≡◌, ◌+◌, ◌<◌, ◌∙◌, ◌&&◌, ℕ, zero, suc, false, nat_lt, List, [], ◌∷◌, Some, length, slice_get, slice_index_or, All, Contains, refl, sym, ap, subst, inl, inr, ⊎_elim, arith, rules}
 use Rattle.std.proofs.lemmas.Bool.{and_parts, and_from, lt-ltb, ltb-true}
-use Rattle.std.proofs.lemmas.List.Elements.{Contains-get_or}
 use Rattle.std.proofs.lemmas.Option.{slice_get_within, get_or_from_slice_get, slice_get-get_or}
 use Rattle.concept_store.specs.Nodes.{IsNode}
 use Rattle.concept_store.specs.Reading.{IsReading, IsIn, AreLinked, IsWithin, IsRoleWithin, Reaches, AreApart, HoldsIn}
@@ -16,15 +15,12 @@ use Rattle.el_rules.specs.Saying.{JoinsAlong, Joins}
 use Rattle.el_rules.specs.Rules.{Gives}
 use Rattle.el_rules.specs.Following.{AreClosed}
 use Rattle.el_rules.specs.Closing.{has_fact, live_nodes, said_at, said_by, AreNodes, HasRole}
+use Rattle.el_rules.proofs.Sound.{held_at}
 use Rattle.el_rules.proofs.Found.{found, finds, answer, not_found, IsLive, live_at, live_has}
 
--- what each element of a list passes
-pub all_by : {X : Type 0} → (P : X → Type 0) (xs : List X) → ((x : X) → Contains xs x → P x) → All P xs
-all_by P xs each = λ k d within. each (slice_index_or xs k d) (Contains-get_or xs k d within)
-
--- the place of an element of a list
-placed : {X : Type 0} → (xs : List X) (x : X) → Contains xs x → (k : ℕ) × (slice_get xs k ≡ Some x)
-placed xs x held = (held.0, slice_get-get_or xs held.0 x held.1 ∙ ap Some held.2)
+-- what the element at each place of a list passes
+pub all_at : {X : Type 0} → (P : X → Type 0) (xs : List X) → ((k : ℕ) (x : X) → slice_get xs k ≡ Some x → P x) → All P xs
+all_at P xs each = λ k d within. each k (slice_index_or xs k d) (slice_get-get_or xs k d within)
 
 -- numbers that are told apart
 zero_suc : (n : ℕ) → zero ≡ suc n → ⊥
@@ -136,13 +132,12 @@ module _ (nodes : List Node) (Named : NodeAxiom → Type 0) (facts : List Fact) 
       → ((k c : ℕ) → slice_get left k ≡ Some c → slice_get whole (lift k) ≡ Some c) → AreApart (said_by nodes facts) left
   apart_from whole [] lift named one_each lifted = tt
   apart_from whole (c ∷ left) lift named one_each lifted = (
-    all_by (λ d. (x : ℕ) → IsIn (said_by nodes facts) c x → ¬ (IsIn (said_by nodes facts) d x)) left
-        (λ d held x in_c in_d.
+    all_at (λ d. (x : ℕ) → IsIn (said_by nodes facts) c x → ¬ (IsIn (said_by nodes facts) d x)) left
+        (λ k d at x in_c in_d.
         let live : List ℕ = live_nodes nodes facts in
-        let at = placed left d held in
         let one = in_is facts live c x in_c in let two = in_is facts live d x in_d in
         not_nothing x one.0 (give Rule.Disj (Sub (slice_index_or live x 0) 1)
-        (c, d, Disjoint whole, refl, named, (lift 0, lift (suc at.0), (λ same. zero_suc at.0 (one_each 0 (suc at.0) same)), lifted 0 c refl, lifted (suc at.0) d at.1), one.1, two.1))),
+        (c, d, Disjoint whole, refl, named, (lift 0, lift (suc k), (λ same. zero_suc k (one_each 0 (suc k) same)), lifted 0 c refl, lifted (suc k) d at), one.1, two.1))),
     apart_from whole left (λ k. lift (suc k)) named (λ i j same. suc_same i j (one_each (suc i) (suc j) same)) (λ k d at. lifted (suc k) d at),
   )
 
@@ -172,9 +167,9 @@ module _ (nodes : List Node) (Named : NodeAxiom → Type 0) (facts : List Fact) 
       let live : List ℕ = live_nodes nodes facts in let held = in_is facts live c x member in
       is_in facts live d x held.0 (give Rule.Incl (Sub (slice_index_or live x 0) d) (c, SubClass c d, named, (refl, refl), held.1))
   holds (Equivalent cs) has named =
-      all_by (λ c. All (λ d. IsWithin (said_by nodes facts) c d) cs) cs (λ c held_c. all_by (λ d. IsWithin (said_by nodes facts) c d) cs (λ d held_d x member.
+      all_at (λ c. All (λ d. IsWithin (said_by nodes facts) c d) cs) cs (λ i c at_c. all_at (λ d. IsWithin (said_by nodes facts) c d) cs (λ j d at_d x member.
       let live : List ℕ = live_nodes nodes facts in let held = in_is facts live c x member in
-      is_in facts live d x held.0 (give Rule.Incl (Sub (slice_index_or live x 0) d) (c, Equivalent cs, named, (held_c, held_d), held.1))))
+      is_in facts live d x held.0 (give Rule.Incl (Sub (slice_index_or live x 0) d) (c, Equivalent cs, named, (held_at cs i c at_c, held_at cs j d at_d), held.1))))
   holds (Disjoint cs) has named = apart_from cs cs (λ k. k) named (λ i j same. same) (λ k c at. at)
   holds (SubRole [] into first) has named = absurd has
   holds (SubRole (r ∷ []) into first) has named = λ x y reached.
@@ -185,10 +180,10 @@ module _ (nodes : List Node) (Named : NodeAxiom → Type 0) (facts : List Fact) 
   holds (SubRole (r ∷ next ∷ rest) into first) has named = λ x y reached.
       along (SubRole (r ∷ next ∷ rest) into first) into r first (next ∷ rest) named (λ p s t joins. joins) (λ none. absurd (search (rules, none))) x reached.0 y reached.1 reached.2
   holds (EquivalentRoles rs) has named =
-      all_by (λ r. All (λ s. IsRoleWithin (said_by nodes facts) r s) rs) rs (λ r held_r. all_by (λ s. IsRoleWithin (said_by nodes facts) r s) rs (λ s held_s x y linked.
+      all_at (λ r. All (λ s. IsRoleWithin (said_by nodes facts) r s) rs) rs (λ i r at_r. all_at (λ s. IsRoleWithin (said_by nodes facts) r s) rs (λ j s at_s x y linked.
       let live : List ℕ = live_nodes nodes facts in let link = linked_is facts live r x y linked in
       is_linked facts live s x y link.0 link.1
-      (give Rule.Role (Link (slice_index_or live x 0) s (slice_index_or live y 0)) (r, EquivalentRoles rs, named, (held_r, held_s), link.2))))
+      (give Rule.Role (Link (slice_index_or live x 0) s (slice_index_or live y 0)) (r, EquivalentRoles rs, named, (held_at rs i r at_r, held_at rs j s at_s), link.2))))
   holds (Transitive r) has named = λ x y z one two.
       let live : List ℕ = live_nodes nodes facts in
       let first = linked_is facts live r x y one in let second = linked_is facts live r y z two in

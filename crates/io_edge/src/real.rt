@@ -113,8 +113,10 @@ impl<'a, R: Files> Folder for RealFolder<'a, R> {
     ghost seen = { λ folder. folder_with_faults folder };
 
     fn read(&mut self, alloc: Global, name: &Text, max: u64) -> ReadAnswer
-        ensures answer { ReadAnswers (folder_with_faults self.old) (folder_with_faults self.new) name.now max result }
-        ensures later { FaultsNeverFall (folder_with_faults self.old) (folder_with_faults self.new) }
+        ensures answer { ReadAnswers
+            (folder_with_faults self.old) (folder_with_faults self.new) name.now max result }
+        ensures later { FaultsNeverFall
+            (folder_with_faults self.old) (folder_with_faults self.new) }
 
         // What this folder says beyond the trait.
         ensures limit { result ≡ ReadAnswer.TooLong → max < 2 ^ 64 - 1 }
@@ -138,7 +140,8 @@ impl<'a, R: Files> Folder for RealFolder<'a, R> {
     fn write(&mut self, _alloc: Global, name: &Text, bytes: &[u8]) -> WriteAnswer
         ensures answer { WriteAnswers
             (folder_with_faults self.old) (folder_with_faults self.new) name.now bytes.now result }
-        ensures later { FaultsNeverFall (folder_with_faults self.old) (folder_with_faults self.new) }
+        ensures later { FaultsNeverFall
+            (folder_with_faults self.old) (folder_with_faults self.new) }
 
         // What this folder says beyond the trait.
         ensures faults { self.new ≡ faults_after_write self.old result }

@@ -49,8 +49,8 @@ pub fn faults_of_brackets_are_told_apart()
     ensures unopened { IsUnopened 1 (bracket Open 0 ∷ bracket Close 1 ∷ bracket Close 2 ∷ []) 2 }
     ensures too_deep { (rest : List Token) →
         IsTooDeep 1 (bracket Open 0 ∷ bracket Open 1 ∷ rest) 1 }
-    ensures within { let tokens = bracket Open 0 ∷ bracket Close 1 ∷ bracket Open 2 ∷ bracket Close 3 ∷ [] in
-        StayWithin 1 tokens }
+    ensures within { StayWithin 1
+        (bracket Open 0 ∷ bracket Close 1 ∷ bracket Open 2 ∷ bracket Close 3 ∷ []) }
 {}
 
 /// The bracket that is answered as `Unclosed` has no partner, and each opening one before it has
