@@ -6,7 +6,7 @@ use Rattle.std.proofs.lemmas.List.{take-append-drop, take_more, map-append, leng
 use Rattle.std.proofs.lemmas.Option.{slice_get_within, slice_get-map, get_or_from_slice_get, same_Some, none-some}
 use Rattle.fact_table.specs.declared.types.Fact.{Fact}
 use Rattle.fact_table.specs.declared.types.Proved.{Proved}
-use Rattle.fact_table.specs.Lists.{AreDistinct, IsAbsent, facts_of}
+use Rattle.fact_table.specs.Lists.{AreDistinctFacts, IsAbsent, facts_of}
 use Rattle.fact_layers.specs.Inside.Stacks.{Placed, all_items}
 use Rattle.fact_layers.proofs.Parts.{at_left, at_right}
 use Rattle.fact_layers.proofs.Layered.{front_more, items_split, rest_split, front_len, split_len}
@@ -25,7 +25,7 @@ added_cases (y ∷ xs) f x (suc p) e = elim (added_cases xs f x p e) [
 ]
 
 -- the facts of a front are distinct
-pub distinct_front : (a b : List Proved) → AreDistinct (facts_of (a ++ b)) → AreDistinct (facts_of a)
+pub distinct_front : (a b : List Proved) → AreDistinctFacts (facts_of (a ++ b)) → AreDistinctFacts (facts_of a)
 distinct_front a b h p q fact here there =
     let low : p < length (facts_of a) = slice_get_within (facts_of a) p fact here in
     let low2 : q < length (facts_of a) = slice_get_within (facts_of a) q fact there in
@@ -33,7 +33,7 @@ distinct_front a b h p q fact here there =
     h p q fact (ap (λ (xs : List Fact). slice_get xs p) whole ∙ at_left (facts_of a) (facts_of b) p low ∙ here) (ap (λ (xs : List Fact). slice_get xs q) whole ∙ at_left (facts_of a) (facts_of b) q low2 ∙ there)
 
 -- and so are those of a rest
-pub distinct_rest : (a b : List Proved) → AreDistinct (facts_of (a ++ b)) → AreDistinct (facts_of b)
+pub distinct_rest : (a b : List Proved) → AreDistinctFacts (facts_of (a ++ b)) → AreDistinctFacts (facts_of b)
 distinct_rest a b h p q fact here there =
     let whole = facts_joined a b in
     let n = length (facts_of a) in
@@ -41,7 +41,7 @@ distinct_rest a b h p q fact here there =
     omega (arith, same)
 
 -- the next fact of a list is not among those before it
-pub next_absent : (old more : List Proved) (n : ℕ) (item : Proved) → AreDistinct (facts_of (old ++ more)) → slice_get more n ≡ Some item → IsAbsent (facts_of (old ++ take n more)) item.fact
+pub next_absent : (old more : List Proved) (n : ℕ) (item : Proved) → AreDistinctFacts (facts_of (old ++ more)) → slice_get more n ≡ Some item → IsAbsent (facts_of (old ++ take n more)) item.fact
 next_absent old more n item distinct next p at =
     let low : n < length more = slice_get_within more n item next in
     let front = old ++ take n more in
@@ -60,12 +60,12 @@ copied_more old more n item next =
     append_assoc old (take n more) (item ∷ []) ∙ ap (λ (xs : List Proved). old ++ xs) (ap (λ (x : Proved). take n more ++ x ∷ []) (sym is) ∙ sym (take_more more n item low))
 
 -- the next layer is distinct from what was copied
-pub next_distinct : (layers : List Placed) (old table : List Proved) (k : ℕ) (d : Placed) → k < length layers → table ≡ old ++ all_items (take k layers) → AreDistinct (facts_of (old ++ all_items layers)) → AreDistinct (facts_of (table ++ (get_or layers k d).items))
+pub next_distinct : (layers : List Placed) (old table : List Proved) (k : ℕ) (d : Placed) → k < length layers → table ≡ old ++ all_items (take k layers) → AreDistinctFacts (facts_of (old ++ all_items layers)) → AreDistinctFacts (facts_of (table ++ (get_or layers k d).items))
 next_distinct layers old table k d low are h =
     let one = (get_or layers k d).items in
     let rest = all_items (drop (k + 1) layers) in
     let whole : old ++ all_items layers ≡ (table ++ one) ++ rest = ap (λ (xs : List Proved). old ++ xs) (items_split layers k ∙ ap (λ (xs : List Proved). all_items (take k layers) ++ xs) (rest_split layers k d low)) ∙ sym (append_assoc old (all_items (take k layers)) (one ++ rest)) ∙ ap (λ (xs : List Proved). xs ++ (one ++ rest)) (sym are) ∙ sym (append_assoc table one rest) in
-    let P : List Proved → Type 0 = λ xs. AreDistinct (facts_of xs) in
+    let P : List Proved → Type 0 = λ xs. AreDistinctFacts (facts_of xs) in
     distinct_front (table ++ one) rest (subst P whole h)
 
 -- a layer more was copied
@@ -78,15 +78,15 @@ pub next_room : (layers : List Placed) (k : ℕ) (d : Placed) (was spare : ℕ) 
 next_room layers k d was spare low room is = omega (arith, room, is, front_len layers k d low, split_len layers (k + 1))
 
 -- a rest of the layers, and what comes after them, is distinct
-pub rest_distinct : (layers : List Placed) (k : ℕ) (more : List Proved) → AreDistinct (facts_of (all_items layers ++ more)) → AreDistinct (facts_of (all_items (drop k layers) ++ more))
+pub rest_distinct : (layers : List Placed) (k : ℕ) (more : List Proved) → AreDistinctFacts (facts_of (all_items layers ++ more)) → AreDistinctFacts (facts_of (all_items (drop k layers) ++ more))
 rest_distinct layers k more h =
     let front = all_items (take k layers) in
     let whole : all_items layers ++ more ≡ front ++ (all_items (drop k layers) ++ more) = ap (λ (xs : List Proved). xs ++ more) (items_split layers k) ∙ append_assoc front (all_items (drop k layers)) more in
-    let P : List Proved → Type 0 = λ xs. AreDistinct (facts_of xs) in
+    let P : List Proved → Type 0 = λ xs. AreDistinctFacts (facts_of xs) in
     distinct_rest front (all_items (drop k layers) ++ more) (subst P whole h)
 
 -- one more fact that is nowhere
-pub distinct_more : (a b : List Proved) (item : Proved) → AreDistinct (facts_of (a ++ b)) → IsAbsent (facts_of (a ++ b)) item.fact → AreDistinct (facts_of (a ++ (b ++ item ∷ [])))
+pub distinct_more : (a b : List Proved) (item : Proved) → AreDistinctFacts (facts_of (a ++ b)) → IsAbsent (facts_of (a ++ b)) item.fact → AreDistinctFacts (facts_of (a ++ (b ++ item ∷ [])))
 distinct_more a b item h absent =
     let xs = facts_of (a ++ b) in
     let are : facts_of (a ++ (b ++ item ∷ [])) ≡ xs ++ item.fact ∷ [] = ap facts_of (sym (append_assoc a b (item ∷ []))) ∙ facts_joined (a ++ b) (item ∷ []) in
@@ -109,8 +109,8 @@ absent_rest a b fact h p at =
     h (n + p) (ap (λ (xs : List Fact). slice_get xs (n + p)) (facts_joined a b) ∙ at_right (facts_of a) (facts_of b) p ∙ at)
 
 -- the first facts over a list are distinct from it
-pub distinct_cut : (a b : List Proved) (n : ℕ) → AreDistinct (facts_of (a ++ b)) → AreDistinct (facts_of (a ++ take n b))
+pub distinct_cut : (a b : List Proved) (n : ℕ) → AreDistinctFacts (facts_of (a ++ b)) → AreDistinctFacts (facts_of (a ++ take n b))
 distinct_cut a b n h =
     let whole : a ++ b ≡ (a ++ take n b) ++ drop n b = ap (λ (xs : List Proved). a ++ xs) (sym (take-append-drop n b)) ∙ sym (append_assoc a (take n b) (drop n b)) in
-    let P : List Proved → Type 0 = λ xs. AreDistinct (facts_of xs) in
+    let P : List Proved → Type 0 = λ xs. AreDistinctFacts (facts_of xs) in
     distinct_front (a ++ take n b) (drop n b) (subst P whole h)

@@ -6,7 +6,7 @@ use Rattle.std.proofs.lemmas.List.Concat.{flat_map-cons}
 use Rattle.std.proofs.lemmas.Grind.{flat_map-append}
 use Rattle.std.proofs.lemmas.Option.{slice_get_within}
 use Rattle.fact_table.specs.declared.types.Proved.{Proved}
-use Rattle.fact_table.specs.Lists.{AreDistinct, facts_of}
+use Rattle.fact_table.specs.Lists.{AreDistinctFacts, facts_of}
 use Rattle.fact_layers.specs.Inside.Stacks.{Placed, all_items, IsBase}
 use Rattle.fact_layers.proofs.Layered.{items_split, split_len}
 use Rattle.fact_layers.proofs.Copied.{added_cases, distinct_front}
@@ -16,10 +16,10 @@ pub items_more : (layers : List Placed) (one : Placed) → all_items (layers ++ 
 items_more layers one = flat_map-append (λ (l : Placed). l.items) layers (one ∷ []) ∙ ap (λ (xs : List Proved). all_items layers ++ xs) (flat_map-cons (λ (l : Placed). l.items) one [] ∙ append-nil one.items)
 
 -- a base with one layer more
-pub base_more : (layers : List Placed) (total : ℕ) (one : Placed) → IsBase layers total → one.start ≡ total → length layers < 16 → total + length one.items < 2 ^ 62 → AreDistinct (facts_of (all_items layers ++ one.items)) → IsBase (layers ++ one ∷ []) (total + length one.items)
+pub base_more : (layers : List Placed) (total : ℕ) (one : Placed) → IsBase layers total → one.start ≡ total → length layers < 16 → total + length one.items < 2 ^ 62 → AreDistinctFacts (facts_of (all_items layers ++ one.items)) → IsBase (layers ++ one ∷ []) (total + length one.items)
 base_more layers total one h start shallow small distinct =
     let items = items_more layers one in
-    let P : List Proved → Type 0 = λ xs. AreDistinct (facts_of xs) in
+    let P : List Proved → Type 0 = λ xs. AreDistinctFacts (facts_of xs) in
     record {
       in_place = λ k layer at. elim (added_cases layers one layer k at) [
         | inl old ↦ h.in_place k layer old.1 ∙ ap (λ (ls : List Placed). length (all_items ls)) (sym (take-append-le k layers (one ∷ []) (omega (arith, old.0))))
@@ -50,7 +50,7 @@ taken_at (suc n) (y ∷ xs) (suc p) x e = taken_at n xs p x e
 -- the first layers of a base
 pub base_front : (layers : List Placed) (total first : ℕ) → IsBase layers total → first ≤ length layers → IsBase (take first layers) (length (all_items (take first layers)))
 base_front layers total first h within =
-    let P : List Proved → Type 0 = λ xs. AreDistinct (facts_of xs) in
+    let P : List Proved → Type 0 = λ xs. AreDistinctFacts (facts_of xs) in
     let long : length (take first layers) ≡ first = length-take-le first layers within in
     record {
       in_place = λ k layer at.
@@ -63,14 +63,14 @@ base_front layers total first h within =
     }
 
 -- the first layers and one of all other items
-pub base_joined : (layers : List Placed) (total first start : ℕ) (top table : List Proved) → IsBase layers total → first ≤ length layers → first < 16 → total + length top < 2 ^ 62 → AreDistinct (facts_of (all_items layers ++ top))
+pub base_joined : (layers : List Placed) (total first start : ℕ) (top table : List Proved) → IsBase layers total → first ≤ length layers → first < 16 → total + length top < 2 ^ 62 → AreDistinctFacts (facts_of (all_items layers ++ top))
     → table ≡ all_items (drop first layers) ++ top → start ≡ length (all_items (take first layers)) → IsBase (take first layers ++ record { items = table; start = start } ∷ []) (total + length top)
 base_joined layers total first start top table h within shallow small distinct is begins =
     let front = all_items (take first layers) in
     let rest = all_items (drop first layers) in
     let whole : all_items layers ++ top ≡ front ++ table = ap (λ (xs : List Proved). xs ++ top) (items_split layers first) ∙ append_assoc front rest top ∙ ap (λ (xs : List Proved). front ++ xs) (sym is) in
     let long : length front + length table ≡ total + length top = omega (arith, h.total_is, split_len layers first, ap length is, length-append rest top) in
-    let P : List Proved → Type 0 = λ xs. AreDistinct (facts_of xs) in
+    let P : List Proved → Type 0 = λ xs. AreDistinctFacts (facts_of xs) in
     let N : ℕ → Type 0 = λ n. IsBase (take first layers ++ record { items = table; start = start } ∷ []) n in
     subst N long (base_more (take first layers) (length front) (record { items = table; start = start }) (base_front layers total first h within) begins (omega (arith, shallow, length-take-le first layers within)) (omega (arith, long, small)) (subst P whole distinct))
 

@@ -9,7 +9,7 @@ use Rattle.fact_table.specs.declared.types.Fact.{Fact}
 use Rattle.fact_table.specs.declared.types.Proved.{Proved}
 use Rattle.fact_table.specs.Lists.{facts_of, IsAbsent}
 use Rattle.fact_table.specs.Places.{IsFoundAt, IsLastBelow, IsClear}
-use Rattle.fact_layers.specs.Inside.Stacks.{Placed, all_items, AreInPlace, IsShifted}
+use Rattle.fact_layers.specs.Inside.Stacks.{Placed, all_items, AreLayersInOrder, IsShifted}
 use Rattle.fact_layers.proofs.Parts.{IsPart, middle_part, read_part, has_in, part_at, clear_part, last_in_part, clear_join, clear_past}
 
 -- the items of the first layers and of the rest
@@ -29,11 +29,11 @@ front_len layers k d low =
     omega (arith, whole, length-append (get_or layers k d).items [])
 
 -- where a layer begins
-pub starts_at : (layers : List Placed) (k : ℕ) (d : Placed) → AreInPlace layers → k < length layers → (get_or layers k d).start ≡ length (all_items (take k layers))
+pub starts_at : (layers : List Placed) (k : ℕ) (d : Placed) → AreLayersInOrder layers → k < length layers → (get_or layers k d).start ≡ length (all_items (take k layers))
 starts_at layers k d h low = h k (get_or layers k d) (slice_get-get_or layers k d low)
 
 -- a layer's items are a part of the whole list
-pub layer_part : (layers : List Placed) (k : ℕ) (d : Placed) → AreInPlace layers → k < length layers → IsPart (all_items layers) (get_or layers k d).items (get_or layers k d).start
+pub layer_part : (layers : List Placed) (k : ℕ) (d : Placed) → AreLayersInOrder layers → k < length layers → IsPart (all_items layers) (get_or layers k d).items (get_or layers k d).start
 layer_part layers k d h low =
     let one = get_or layers k d in
     let split : all_items layers ≡ all_items (take k layers) ++ (one.items ++ all_items (drop (k + 1) layers)) = items_split layers k ∙ ap (λ (xs : List Proved). all_items (take k layers) ++ xs) (rest_split layers k d low) in
@@ -42,15 +42,15 @@ layer_part layers k d h low =
     subst S (sym (starts_at layers k d h low)) (subst P (sym split) (middle_part (all_items (take k layers)) one.items (all_items (drop (k + 1) layers))))
 
 -- and so are its facts
-pub layer_facts : (layers : List Placed) (k : ℕ) (d : Placed) → AreInPlace layers → k < length layers → IsPart (facts_of (all_items layers)) (facts_of (get_or layers k d).items) (get_or layers k d).start
+pub layer_facts : (layers : List Placed) (k : ℕ) (d : Placed) → AreLayersInOrder layers → k < length layers → IsPart (facts_of (all_items layers)) (facts_of (get_or layers k d).items) (get_or layers k d).start
 layer_facts layers k d h low = read_part (λ (item : Proved). item.fact) (all_items layers) (get_or layers k d).items (get_or layers k d).start (layer_part layers k d h low)
 
 -- the next layer begins where a layer's facts end
-pub next_start : (layers : List Placed) (k : ℕ) (d : Placed) → AreInPlace layers → k < length layers → (get_or layers k d).start + length (facts_of (get_or layers k d).items) ≡ length (all_items (take (k + 1) layers))
+pub next_start : (layers : List Placed) (k : ℕ) (d : Placed) → AreLayersInOrder layers → k < length layers → (get_or layers k d).start + length (facts_of (get_or layers k d).items) ≡ length (all_items (take (k + 1) layers))
 next_start layers k d h low = omega (arith, starts_at layers k d h low, front_len layers k d low, length-map (get_or layers k d).items (λ (item : Proved). item.fact))
 
 -- a layer without the fact
-pub find_more : (layers : List Placed) (k : ℕ) (d : Placed) (fact : Fact) → AreInPlace layers → k < length layers → IsAbsent (facts_of (get_or layers k d).items) fact
+pub find_more : (layers : List Placed) (k : ℕ) (d : Placed) (fact : Fact) → AreLayersInOrder layers → k < length layers → IsAbsent (facts_of (get_or layers k d).items) fact
     → IsClear (λ (f : Fact). f) (facts_of (all_items layers)) fact 0 (length (all_items (take k layers))) → IsClear (λ (f : Fact). f) (facts_of (all_items layers)) fact 0 (length (all_items (take (k + 1) layers)))
 find_more layers k d fact h low absent clear =
     let key : Fact → Fact = λ f. f in
@@ -64,7 +64,7 @@ find_more layers k d fact h low absent clear =
     absent (q - one.start) (inside.1 ∙ ap Some inside.2))
 
 -- a layer with the fact
-pub find_here : (layers : List Placed) (k : ℕ) (d : Placed) (fact : Fact) (p : ℕ) → AreInPlace layers → k < length layers → IsShifted (get_or layers k d).start (IsFoundAt (facts_of (get_or layers k d).items) fact) (Some p) → slice_get (facts_of (all_items layers)) p ≡ Some fact
+pub find_here : (layers : List Placed) (k : ℕ) (d : Placed) (fact : Fact) (p : ℕ) → AreLayersInOrder layers → k < length layers → IsShifted (get_or layers k d).start (IsFoundAt (facts_of (get_or layers k d).items) fact) (Some p) → slice_get (facts_of (all_items layers)) p ≡ Some fact
 find_here layers k d fact p h low found =
     let one = get_or layers k d in
     part_at (facts_of (all_items layers)) (facts_of one.items) one.start p fact (layer_facts layers k d h low) found.0 found.1
@@ -89,7 +89,7 @@ last_none key layers k wanted below none clear p above under has =
     clear p (omega (arith, nothing)) under has
 
 -- a layer without such a place
-pub last_more : {K : Type 0} (key : Fact → K) (layers : List Placed) (k : ℕ) (d : Placed) (wanted : K) (below : ℕ) → AreInPlace layers → k < length layers → IsClear key (facts_of (get_or layers k d).items) wanted 0 (below - (get_or layers k d).start)
+pub last_more : {K : Type 0} (key : Fact → K) (layers : List Placed) (k : ℕ) (d : Placed) (wanted : K) (below : ℕ) → AreLayersInOrder layers → k < length layers → IsClear key (facts_of (get_or layers k d).items) wanted 0 (below - (get_or layers k d).start)
     → IsClear key (facts_of (all_items layers)) wanted (length (all_items (take (k + 1) layers))) below → IsClear key (facts_of (all_items layers)) wanted (length (all_items (take k layers))) below
 last_more key layers k d wanted below h low none after =
     let one = get_or layers k d in
@@ -98,7 +98,7 @@ last_more key layers k d wanted below h low none after =
     subst P (starts_at layers k d h low) (clear_part key xs (facts_of one.items) one.start wanted below (layer_facts layers k d h low) none (subst P (sym (next_start layers k d h low)) after))
 
 -- a layer with such a place
-pub last_here : {K : Type 0} (key : Fact → K) (layers : List Placed) (k : ℕ) (d : Placed) (wanted : K) (below p : ℕ) → AreInPlace layers → k < length layers → IsShifted (get_or layers k d).start (IsLastBelow key (facts_of (get_or layers k d).items) wanted (below - (get_or layers k d).start)) (Some p)
+pub last_here : {K : Type 0} (key : Fact → K) (layers : List Placed) (k : ℕ) (d : Placed) (wanted : K) (below p : ℕ) → AreLayersInOrder layers → k < length layers → IsShifted (get_or layers k d).start (IsLastBelow key (facts_of (get_or layers k d).items) wanted (below - (get_or layers k d).start)) (Some p)
     → IsClear key (facts_of (all_items layers)) wanted (length (all_items (take (k + 1) layers))) below → IsLastBelow key (facts_of (all_items layers)) wanted below (Some p)
 last_here key layers k d wanted below p h low last after =
     let one = get_or layers k d in
@@ -107,7 +107,7 @@ last_here key layers k d wanted below p h low last after =
     last_in_part key xs (facts_of one.items) one.start wanted below p (layer_facts layers k d h low) last (subst P (sym (next_start layers k d h low)) after)
 
 -- an item of a layer
-pub item_here : (layers : List Placed) (k : ℕ) (d : Placed) (p : ℕ) (item : Proved) → AreInPlace layers → k < length layers → (get_or layers k d).start ≤ p → slice_get (get_or layers k d).items (p - (get_or layers k d).start) ≡ Some item → slice_get (all_items layers) p ≡ Some item
+pub item_here : (layers : List Placed) (k : ℕ) (d : Placed) (p : ℕ) (item : Proved) → AreLayersInOrder layers → k < length layers → (get_or layers k d).start ≤ p → slice_get (get_or layers k d).items (p - (get_or layers k d).start) ≡ Some item → slice_get (all_items layers) p ≡ Some item
 item_here layers k d p item h low above at =
     let one = get_or layers k d in
     part_at (all_items layers) one.items one.start p item (layer_part layers k d h low) above at

@@ -4,6 +4,8 @@
 mod layer;
 mod merge;
 mod shared;
+#[cfg(test)]
+mod tests;
 mod through;
 mod topped;
 

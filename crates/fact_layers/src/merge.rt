@@ -1,8 +1,8 @@
 //! Layers shared and merged.
 
 ghost use Rattle.std.specs.Prelude.{◌≡◌, ◌+◌, ◌<◌, ◌≤◌, ◌^◌, ◌++◌, ◌∷◌, [], IfOk, IfErr, OnOk, OnErr, length, take, drop};
-ghost use Rattle.fact_table.specs.Lists.{facts_of, AreDistinct};
-ghost use Rattle.fact_layers.specs.Inside.Stacks.{AreInPlace, all_items};
+ghost use Rattle.fact_table.specs.Lists.{facts_of, AreDistinctFacts};
+ghost use Rattle.fact_layers.specs.Inside.Stacks.{AreLayersInOrder, all_items};
 
 use crate::layer::Layer;
 use fact_table::{FactsByPlace, FlatFacts};
@@ -15,7 +15,7 @@ const MOST_LAYERS: usize = 16;
 /// Adds the facts of one table to another.
 pub fn copy_all(table: &mut FlatFacts, more: &FlatFacts)
     requires room { length more.now.list ≤ table.old.spare }
-    requires distinct { AreDistinct (facts_of (table.old.list ++ more.now.list)) }
+    requires distinct { AreDistinctFacts (facts_of (table.old.list ++ more.now.list)) }
     ensures list { table.new.list ≡ table.old.list ++ more.now.list }
     ensures spare { table.old.spare ≡ table.new.spare + length more.now.list }
 {
@@ -29,7 +29,7 @@ pub fn copy_all(table: &mut FlatFacts, more: &FlatFacts)
 pub fn copy_layers(table: &mut FlatFacts, layers: &[Layer], first: usize)
     requires first { first ≤ length layers.now }
     requires room { length (all_items (drop first layers.now)) ≤ table.old.spare }
-    requires distinct { AreDistinct (facts_of (table.old.list ++
+    requires distinct { AreDistinctFacts (facts_of (table.old.list ++
         all_items (drop first layers.now))) }
     ensures list { table.new.list ≡ table.old.list ++ all_items (drop first layers.now) }
     ensures spare { table.old.spare ≡
@@ -111,7 +111,7 @@ pub fn merged(
 ) -> Result<FlatFacts, AllocError>
     requires first { first ≤ length layers.now }
     requires size { size ≡ length top.now.list + length (all_items (drop first layers.now)) }
-    requires distinct { AreDistinct (facts_of (all_items layers.now ++ top.now.list)) }
+    requires distinct { AreDistinctFacts (facts_of (all_items layers.now ++ top.now.list)) }
     ensures { IfOk result (λ table.
         table.list ≡ all_items (drop first layers.now) ++ top.now.list) }
 {

@@ -1,7 +1,7 @@
 //! The base: facts that are shared and never change.
 
 ghost use Rattle.std.specs.Prelude.{◌≡◌, ◌+◌, ◌<◌, ◌≤◌, ◌^◌, ◌++◌, IfOk, IfErr, length, drop};
-ghost use Rattle.fact_table.specs.Lists.{facts_of, AreDistinct};
+ghost use Rattle.fact_table.specs.Lists.{facts_of, AreDistinctFacts};
 ghost use Rattle.fact_layers.specs.Inside.Stacks.{IsBase, all_items};
 
 use crate::layer::Layer;
@@ -69,7 +69,7 @@ impl Base {
 /// A base with more facts, which are moved into a layer of their own or copied into one together
 /// with the smaller layers. After an error the base and the facts are handed back.
 pub fn with_top(alloc: Global, base: Base, top: FlatFacts) -> Result<Base, (Base, FlatFacts)>
-    requires { AreDistinct (facts_of (base ++ top.list)) }
+    requires { AreDistinctFacts (facts_of (base ++ top.list)) }
     ensures ok { IfOk result (λ b. b ≡ base ++ top.list) }
     ensures err { IfErr result (λ back. (back.0 ≡ base) × (back.1 ≡ top)) }
 {
@@ -101,7 +101,7 @@ fn moved(
     requires base { IsBase layers.items total }
     requires shallow { length layers.items < 16 }
     requires small { total + length top.list < 2 ^ 62 }
-    requires distinct { AreDistinct (facts_of (all_items layers.items ++ top.list)) }
+    requires distinct { AreDistinctFacts (facts_of (all_items layers.items ++ top.list)) }
     ensures ok { IfOk result (λ b. b ≡ all_items layers.items ++ top.list) }
     ensures err { IfErr result (λ back. (back.0 ≡ all_items layers.items) × (back.1 ≡ top)) }
 {
@@ -130,7 +130,7 @@ fn joined(
     requires within { first ≤ length layers.now }
     requires size { size ≡ length top.now.list + length (all_items (drop first layers.now)) }
     requires small { total + length top.now.list < 2 ^ 62 }
-    requires distinct { AreDistinct (facts_of (all_items layers.now ++ top.now.list)) }
+    requires distinct { AreDistinctFacts (facts_of (all_items layers.now ++ top.now.list)) }
     ensures { IfOk result (λ b. b ≡ all_items layers.now ++ top.now.list) }
 {
     let whole = total + top.len();
@@ -147,13 +147,13 @@ fn joined(
 
 impl FactsByPlace for Base {
     ghost use Rattle.std.specs.Prelude.{◌≡◌, ◌<◌, ◌^◌, length};
-    ghost use Rattle.fact_table.specs.Lists.{AreDistinct, facts_of};
+    ghost use Rattle.fact_table.specs.Lists.{AreDistinctFacts, facts_of};
 
     ghost facts = { λ b. b };
 
     fn len(&self) -> usize
         ensures count { result ≡ length self.now }
-        ensures distinct { AreDistinct (facts_of self.now) }
+        ensures distinct { AreDistinctFacts (facts_of self.now) }
         ensures small { result < 2 ^ 62 }
     {
         self.total

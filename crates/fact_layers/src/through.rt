@@ -4,14 +4,14 @@ ghost use Rattle.std.specs.Prelude.{◌≡◌, ◌<◌, Some, length, slice_get}
 ghost use Rattle.fact_table.specs.Groups.{group_at};
 ghost use Rattle.fact_table.specs.Lists.{facts_of};
 ghost use Rattle.fact_table.specs.Places.{IsFoundAt, IsLastBelow};
-ghost use Rattle.fact_layers.specs.Inside.Stacks.{AreInPlace, all_items};
+ghost use Rattle.fact_layers.specs.Inside.Stacks.{AreLayersInOrder, all_items};
 
 use crate::layer::Layer;
 use fact_table::{Fact, FactGroup, FactSide, Proved};
 
 /// The place of a fact. The oldest layer comes first: it is the largest, and most facts are there.
 pub fn find_through(layers: &[Layer], fact: Fact) -> Option<usize>
-    requires { AreInPlace layers.now }
+    requires { AreLayersInOrder layers.now }
     ensures { IsFoundAt (facts_of (all_items layers.now)) fact result }
 {
     for layer in layers {
@@ -25,7 +25,7 @@ pub fn find_through(layers: &[Layer], fact: Fact) -> Option<usize>
 
 /// The item at a place.
 pub fn at_through(layers: &[Layer], place: usize) -> Proved
-    requires in_place { AreInPlace layers.now }
+    requires in_place { AreLayersInOrder layers.now }
     requires within { place < length (all_items layers.now) }
     ensures { slice_get (all_items layers.now) place ≡ Some result }
 {
@@ -48,7 +48,7 @@ pub fn last_through(
     group: FactGroup,
     below: usize,
 ) -> Option<usize>
-    requires { AreInPlace layers.now }
+    requires { AreLayersInOrder layers.now }
     ensures { IsLastBelow (group_at side) (facts_of (all_items layers.now)) group below result }
 {
     let mut left = layers.len();

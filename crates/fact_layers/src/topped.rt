@@ -5,7 +5,8 @@ use fact_table::{Fact, FactGroup, FactSide, Facts, FactsByPlace, FlatFacts, Prov
 use std::alloc::{AllocError, Global};
 use std::marker::Model;
 
-/// Facts over a shared base, which can be given up again. A place counts from the base's first fact.
+/// Facts over a shared base, which can be given up again. Places count from the first fact of the
+/// base.
 #[derive(Drop)]
 pub struct Layers {
     base: Base,
@@ -14,14 +15,14 @@ pub struct Layers {
 
 impl Model for Layers {
     ghost use Rattle.std.specs.Prelude.{◌++◌};
-    ghost use Rattle.fact_table.specs.Lists.{facts_of, AreDistinct};
+    ghost use Rattle.fact_table.specs.Lists.{facts_of, AreDistinctFacts};
     ghost use Rattle.fact_layers.specs.Tops.{Topped};
 
     ghost Value = { Topped };
 
     ghost view = { λ l. record { base = l.base; top = l.top.list; spare = l.top.spare } };
 
-    ghost invariant = { λ l. AreDistinct (facts_of (l.base ++ l.top.list)) };
+    ghost invariant = { λ l. AreDistinctFacts (facts_of (l.base ++ l.top.list)) };
 }
 
 impl Layers {

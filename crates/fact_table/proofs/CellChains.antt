@@ -9,10 +9,10 @@ use Rattle.fact_table.specs.declared.types.Fact.{Fact}
 use Rattle.fact_table.specs.declared.types.FactSide.{FactSide}
 use Rattle.fact_table.specs.declared.types.FactSide.TheVariants.{From, Into}
 use Rattle.fact_table.specs.declared.cells.Cell.{Cell}
-use Rattle.fact_table.specs.declared.cells.Heads.{Heads}
+use Rattle.fact_table.specs.declared.cells.ChainHeads.{ChainHeads}
 use Rattle.fact_table.specs.Inside.Buckets.{bucket_of, head_of, head_at}
 use Rattle.fact_table.specs.Inside.Chains.{AreChainedBy}
-use Rattle.fact_table.specs.Inside.Cells.{AreCellsBy, AreChained, HasHeads, HasAsMany, IsPut, IsPutBy, cell_facts, same_link, link_at}
+use Rattle.fact_table.specs.Inside.Cells.{AreCellsBy, AreCellsChained, HasHeads, HasAsMany, IsPut, IsPutBy, cell_facts, same_link, link_at}
 use Rattle.fact_table.proofs.Chains.{chained_more, chained_less, chained_none}
 
 pub bucket_within : (mask : ℕ) (fact : Fact) → bucket_of mask fact ≤ mask
@@ -54,7 +54,7 @@ put_by : (key : ℕ → Fact → ℕ) (f g : Fact) (place link : ℕ) (before af
 put_by key f g place link before after same put = let P : Fact → Type 0 = λ x. IsPutBy key x place link before after in subst P (sym same) put
 
 -- the three chains with a cell more
-pub all_more : (cells : List Cell) (before after : Heads) (fact : Fact) (cell : Cell) → AreChained cells before → HasHeads before → IsPut fact (length cells) cell before after → AreChained (cells ++ cell ∷ []) after
+pub all_more : (cells : List Cell) (before after : ChainHeads) (fact : Fact) (cell : Cell) → AreCellsChained cells before → HasHeads before → IsPut fact (length cells) cell before after → AreCellsChained (cells ++ cell ∷ []) after
 all_more cells before after fact cell h some put = record {
   same = cells_more bucket_of same_link cells before.same.items after.same.items cell bucket_within some.same h.same (put_by bucket_of fact cell.fact (length cells) cell.same before.same.items after.same.items put.fact_is put.same);
   from = cells_more (head_at From) (link_at From) cells before.from.items after.from.items cell (head_within From) some.from h.from (put_by (head_at From) fact cell.fact (length cells) cell.from before.from.items after.from.items put.fact_is put.from);
@@ -62,14 +62,14 @@ all_more cells before after fact cell h some put = record {
 }
 
 -- the three chains with a cell less
-pub all_less : (old cells : List Cell) (before after : Heads) (cell : Cell) → AreChained old before → old ≡ cells ++ cell ∷ []
+pub all_less : (old cells : List Cell) (before after : ChainHeads) (cell : Cell) → AreCellsChained old before → old ≡ cells ++ cell ∷ []
     → after.same.items ≡ set before.same.items (bucket_of (length before.same.items - 1) cell.fact) cell.same
     → after.from.items ≡ set before.from.items (head_at From (length before.from.items - 1) cell.fact) cell.from
     → after.into.items ≡ set before.into.items (head_at Into (length before.into.items - 1) cell.fact) cell.into
-    → AreChained cells after
+    → AreCellsChained cells after
 all_less old cells before after cell h are same from into =
-    let C : List Cell → Type 0 = λ cs. AreChained cs before in
-    let was : AreChained (cells ++ cell ∷ []) before = subst C are h in
+    let C : List Cell → Type 0 = λ cs. AreCellsChained cs before in
+    let was : AreCellsChained (cells ++ cell ∷ []) before = subst C are h in
     let S : List ℕ → Type 0 = λ hs. AreCellsBy bucket_of same_link cells hs in
     let F : List ℕ → Type 0 = λ hs. AreCellsBy (head_at From) (link_at From) cells hs in
     let I : List ℕ → Type 0 = λ hs. AreCellsBy (head_at Into) (link_at Into) cells hs in
@@ -80,7 +80,7 @@ all_less old cells before after cell h are same from into =
     }
 
 -- no cells, over heads that lead nowhere
-pub all_none : (heads : Heads) → ((k : ℕ) → get_or heads.same.items k 0 ≡ 0) → ((k : ℕ) → get_or heads.from.items k 0 ≡ 0) → ((k : ℕ) → get_or heads.into.items k 0 ≡ 0) → AreChained [] heads
+pub all_none : (heads : ChainHeads) → ((k : ℕ) → get_or heads.same.items k 0 ≡ 0) → ((k : ℕ) → get_or heads.from.items k 0 ≡ 0) → ((k : ℕ) → get_or heads.into.items k 0 ≡ 0) → AreCellsChained [] heads
 all_none heads same from into = record {
   same = chained_none (bucket_of (length heads.same.items - 1)) heads.same.items same;
   from = chained_none (head_at From (length heads.from.items - 1)) heads.from.items from;
@@ -88,10 +88,10 @@ all_none heads same from into = record {
 }
 
 -- one more of the first cells is linked
-pub all_next : (cells : List Cell) (before after : Heads) (place : ℕ) (fact : Fact) (cell : Cell) → AreChained (take place cells) before → place < length cells → HasHeads before → IsPut fact place cell before after
-    → AreChained (take (place + 1) (set cells place cell)) after
+pub all_next : (cells : List Cell) (before after : ChainHeads) (place : ℕ) (fact : Fact) (cell : Cell) → AreCellsChained (take place cells) before → place < length cells → HasHeads before → IsPut fact place cell before after
+    → AreCellsChained (take (place + 1) (set cells place cell)) after
 all_next cells before after place fact cell h low some put =
-    let C : List Cell → Type 0 = λ cs. AreChained cs after in
+    let C : List Cell → Type 0 = λ cs. AreCellsChained cs after in
     let N : ℕ → Type 0 = λ n. IsPut fact n cell before after in
     let long : length (take place cells) ≡ place = length-take-le place cells (omega (arith, low)) in
     subst C (sym (take_more_set cells place cell low)) (all_more (take place cells) before after fact cell h some (subst N (sym long) put))
@@ -102,21 +102,21 @@ same_facts cells p old cell low read is =
     map-set (λ (x : Cell). x.fact) cells p cell ∙ ap (λ (f : Fact). set (cell_facts cells) p f) (is ∙ ap (λ (x : Cell). x.fact) read ∙ sym (get_or-map (λ (x : Cell). x.fact) cells p old cell.fact low)) ∙ set-get_or (cell_facts cells) p cell.fact
 
 -- putting a cell leaves the number of heads
-pub put_many : (fact : Fact) (place : ℕ) (cell : Cell) (before after : Heads) → IsPut fact place cell before after → HasAsMany before after
+pub put_many : (fact : Fact) (place : ℕ) (cell : Cell) (before after : ChainHeads) → IsPut fact place cell before after → HasAsMany before after
 put_many fact place cell before after put = record {
   same = ap length put.same.heads_are ∙ length-set before.same.items (bucket_of (length before.same.items - 1) fact) (place + 1);
   from = ap length put.from.heads_are ∙ length-set before.from.items (head_at From (length before.from.items - 1) fact) (place + 1);
   into = ap length put.into.heads_are ∙ length-set before.into.items (head_at Into (length before.into.items - 1) fact) (place + 1);
 }
 
-pub many_then : (a b d : Heads) → HasAsMany a b → HasAsMany b d → HasAsMany a d
+pub many_then : (a b d : ChainHeads) → HasAsMany a b → HasAsMany b d → HasAsMany a d
 many_then a b d h k = record { same = k.same ∙ h.same; from = k.from ∙ h.from; into = k.into ∙ h.into }
 
-pub many_refl : (a : Heads) → HasAsMany a a
+pub many_refl : (a : ChainHeads) → HasAsMany a a
 many_refl a = record { same = refl; from = refl; into = refl }
 
 -- as many heads are some heads
-pub heads_kept : (a b : Heads) → HasAsMany a b → HasHeads a → HasHeads b
+pub heads_kept : (a b : ChainHeads) → HasAsMany a b → HasHeads a → HasHeads b
 heads_kept a b h some = record { same = omega (arith, h.same, some.same); from = omega (arith, h.from, some.from); into = omega (arith, h.into, some.into) }
 
 -- the fact of a cell that was read

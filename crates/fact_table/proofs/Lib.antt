@@ -6,3 +6,4 @@ pub mod CellChains
 pub mod CellWalks
 pub mod Listed
 pub mod Tables
+pub mod OneAnswer

@@ -7,14 +7,14 @@ use Rattle.std.proofs.lemmas.Option.{slice_get_within}
 use Rattle.fact_table.specs.declared.types.Fact.{Fact}
 use Rattle.fact_table.specs.declared.types.Reason.{Reason}
 use Rattle.fact_table.specs.declared.cells.Cell.{Cell}
-use Rattle.fact_table.specs.declared.cells.Heads.{Heads}
-use Rattle.fact_table.specs.Lists.{IsAbsent, AreDistinct}
-use Rattle.fact_table.specs.Inside.Cells.{AreChained, HasHeads, HasAsMany, IsPut, IsTable, cell_facts}
+use Rattle.fact_table.specs.declared.cells.ChainHeads.{ChainHeads}
+use Rattle.fact_table.specs.Lists.{IsAbsent, AreDistinctFacts}
+use Rattle.fact_table.specs.Inside.Cells.{AreCellsChained, HasHeads, HasAsMany, IsPut, IsTable, cell_facts}
 use Rattle.fact_table.proofs.Newest.{pushed_cases}
 use Rattle.fact_table.proofs.CellChains.{all_more, put_many, heads_kept}
 
 -- one more fact that is not there
-pub distinct_more : (facts : List Fact) (fact : Fact) → AreDistinct facts → IsAbsent facts fact → AreDistinct (facts ++ fact ∷ [])
+pub distinct_more : (facts : List Fact) (fact : Fact) → AreDistinctFacts facts → IsAbsent facts fact → AreDistinctFacts (facts ++ fact ∷ [])
 distinct_more facts fact distinct absent p q x here there = elim (pushed_cases facts fact x p here) [
   | inl a ↦ elim (pushed_cases facts fact x q there) [
     | inl b ↦ distinct p q x a.1 b.1
@@ -26,12 +26,12 @@ distinct_more facts fact distinct absent p q x here there = elim (pushed_cases f
   ]
 ]
 
-pub table_more : (cells : List Cell) (reasons : List Reason) (before after : Heads) (spare cells_room reasons_room : ℕ) (fact : Fact) (cell : Cell) (reason : Reason)
+pub table_more : (cells : List Cell) (reasons : List Reason) (before after : ChainHeads) (spare cells_room reasons_room : ℕ) (fact : Fact) (cell : Cell) (reason : Reason)
     → IsTable cells reasons before spare cells_room reasons_room → IsAbsent (cell_facts cells) fact → 0 < spare → IsPut fact (length cells) cell before after
     → IsTable (cells ++ cell ∷ []) (reasons ++ reason ∷ []) after (spare - 1) cells_room reasons_room
 table_more cells reasons before after spare cells_room reasons_room fact cell reason h absent some put =
     let heads : HasHeads before = h.headed (omega (arith, some)) in
-    let D : List Fact → Type 0 = λ facts. AreDistinct facts in
+    let D : List Fact → Type 0 = λ facts. AreDistinctFacts facts in
     let facts_are : cell_facts cells ++ fact ∷ [] ≡ cell_facts (cells ++ cell ∷ []) = ap (λ (g : Fact). cell_facts cells ++ g ∷ []) (sym put.fact_is) ∙ sym (map-append (λ (x : Cell). x.fact) cells (cell ∷ [])) in
     let long = length-append cells (cell ∷ []) in
     record {
@@ -45,13 +45,13 @@ table_more cells reasons before after spare cells_room reasons_room fact cell re
     }
 
 -- the same facts, with other room and heads
-pub table_with : (cells others : List Cell) (reasons : List Reason) (before after : Heads) (spare room old_cells_room old_reasons_room cells_room reasons_room : ℕ)
-    → IsTable cells reasons before spare old_cells_room old_reasons_room → AreChained others after → cell_facts others ≡ cell_facts cells
+pub table_with : (cells others : List Cell) (reasons : List Reason) (before after : ChainHeads) (spare room old_cells_room old_reasons_room cells_room reasons_room : ℕ)
+    → IsTable cells reasons before spare old_cells_room old_reasons_room → AreCellsChained others after → cell_facts others ≡ cell_facts cells
     → length cells + room ≤ cells_room → length cells + room ≤ reasons_room → length cells + room < 2 ^ 32 → (0 < length cells + room → HasHeads after)
     → IsTable others reasons after room cells_room reasons_room
 table_with cells others reasons before after spare room old_cells_room old_reasons_room cells_room reasons_room h chained same cells_fit reasons_fit small headed =
     let long : length others ≡ length cells = sym (length-map others (λ (x : Cell). x.fact)) ∙ ap length same ∙ length-map cells (λ (x : Cell). x.fact) in
-    let D : List Fact → Type 0 = λ facts. AreDistinct facts in
+    let D : List Fact → Type 0 = λ facts. AreDistinctFacts facts in
     record {
       chained = chained;
       distinct = subst D (sym same) h.distinct;
@@ -70,8 +70,8 @@ taken_at (suc n) (y ∷ xs) zero x e = e
 taken_at (suc n) (y ∷ xs) (suc p) x e = taken_at n xs p x e
 
 -- the first facts, with the room of the others
-pub table_cut : (old cells : List Cell) (old_reasons reasons : List Reason) (before after : Heads) (spare gone cells_room reasons_room : ℕ)
-    → IsTable old old_reasons before spare cells_room reasons_room → AreChained cells after → HasAsMany before after
+pub table_cut : (old cells : List Cell) (old_reasons reasons : List Reason) (before after : ChainHeads) (spare gone cells_room reasons_room : ℕ)
+    → IsTable old old_reasons before spare cells_room reasons_room → AreCellsChained cells after → HasAsMany before after
     → cells ≡ take (length old - gone) old → reasons ≡ take (length old - gone) old_reasons → gone ≤ length old
     → IsTable cells reasons after (spare + gone) cells_room reasons_room
 table_cut old cells old_reasons reasons before after spare gone cells_room reasons_room h chained many are reasons_are low =

@@ -16,5 +16,6 @@ abbrev pub IsAbsent : List Fact → Fact → Type 0
 IsAbsent facts fact = (p : ℕ) → slice_get facts p ≡ Some fact → ⊥
 
 -- no fact is at two places
-abbrev pub AreDistinct : List Fact → Type 0
-AreDistinct facts = (p q : ℕ) (fact : Fact) → slice_get facts p ≡ Some fact → slice_get facts q ≡ Some fact → p ≡ q
+abbrev pub AreDistinctFacts : List Fact → Type 0
+AreDistinctFacts facts =
+    (p q : ℕ) (fact : Fact) → slice_get facts p ≡ Some fact → slice_get facts q ≡ Some fact → p ≡ q

@@ -19,7 +19,8 @@ IsClear key xs k start below = (p : ℕ) → start ≤ p → p < below → HasKe
 -- the last place below a bound that has the key, and none if no place below it has
 abbrev pub IsLastBelow : {X K : Type 0} → (X → K) → List X → K → ℕ → Option ℕ → Type 0
 IsLastBelow key xs k below None = IsClear key xs k 0 below
-IsLastBelow key xs k below (Some p) = (p < below) × HasKeyAt key xs k p × IsClear key xs k (p + 1) below
+IsLastBelow key xs k below (Some p) =
+    (p < below) × HasKeyAt key xs k p × IsClear key xs k (p + 1) below
 
 -- the place that comes after one, and the first place after none
 abbrev pub place_past : Option ℕ → ℕ
@@ -29,4 +30,5 @@ place_past (Some p) = p + 1
 -- the first place past one that has the key, and none if no place past it has
 abbrev pub IsNextPast : {X K : Type 0} → (X → K) → List X → K → Option ℕ → Option ℕ → Type 0
 IsNextPast key xs k after None = (p : ℕ) → place_past after ≤ p → HasKeyAt key xs k p → ⊥
-IsNextPast key xs k after (Some p) = (place_past after ≤ p) × HasKeyAt key xs k p × IsClear key xs k (place_past after) p
+IsNextPast key xs k after (Some p) =
+    (place_past after ≤ p) × HasKeyAt key xs k p × IsClear key xs k (place_past after) p

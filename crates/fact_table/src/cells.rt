@@ -2,7 +2,7 @@
 
 ghost use Rattle.std.specs.Prelude.{◌≡◌, ◌+◌, ◌-◌, ◌<◌, ◌≤◌, ◌^◌, ℕ, length, slice_index_or, slice_set, take};
 ghost use Rattle.std.specs.Vec.{vec_capacity};
-ghost use Rattle.fact_table.specs.Inside.Cells.{AreChained, HasHeads, HasAsMany, IsPut, cell_facts};
+ghost use Rattle.fact_table.specs.Inside.Cells.{AreCellsChained, HasHeads, HasAsMany, IsPut, cell_facts};
 
 use crate::buckets::{bucket, group_at, head};
 use crate::types::{Fact, FactSide};
@@ -20,7 +20,7 @@ pub struct Cell {
 /// The heads of three chains: by the whole fact, and by its group at each side. A head is a link to
 /// the newest fact of its chain.
 #[derive(Drop)]
-pub struct Heads {
+pub struct ChainHeads {
     pub same: Vec<u32>,
     pub from: Vec<u32>,
     pub into: Vec<u32>,
@@ -41,7 +41,7 @@ fn put(heads: &mut Vec<u32>, at: usize, place: usize) -> u32
 
 /// The cell of a fact at a place, put before all others of its chains.
 #[inline(always)]
-pub fn put_cell(heads: &mut Heads, fact: Fact, place: usize) -> Cell
+pub fn put_cell(heads: &mut ChainHeads, fact: Fact, place: usize) -> Cell
     requires some { HasHeads heads.old }
     requires small { place + 1 < 2 ^ 32 }
     ensures { IsPut fact place result heads.old heads.new }
@@ -67,13 +67,13 @@ pub fn put_cell(heads: &mut Heads, fact: Fact, place: usize) -> Cell
 }
 
 /// Links all cells anew, over heads that lead nowhere.
-pub fn relink(cells: &mut Vec<Cell>, heads: &mut Heads)
+pub fn relink(cells: &mut Vec<Cell>, heads: &mut ChainHeads)
     requires some { HasHeads heads.old }
     requires small { length cells.old.items < 2 ^ 32 }
     requires same { (k : ℕ) → slice_index_or heads.old.same.items k 0 ≡ 0 }
     requires from { (k : ℕ) → slice_index_or heads.old.from.items k 0 ≡ 0 }
     requires into { (k : ℕ) → slice_index_or heads.old.into.items k 0 ≡ 0 }
-    ensures chained { AreChained cells.new.items heads.new }
+    ensures chained { AreCellsChained cells.new.items heads.new }
     ensures facts { cell_facts cells.new.items ≡ cell_facts cells.old.items }
     ensures capacity { vec_capacity cells.new ≡ vec_capacity cells.old }
     ensures many { HasAsMany heads.old heads.new }
@@ -86,11 +86,11 @@ pub fn relink(cells: &mut Vec<Cell>, heads: &mut Heads)
 }
 
 /// Takes the last cell out of its chains.
-pub fn unlink(cells: &mut Vec<Cell>, heads: &mut Heads)
-    requires chained { AreChained cells.old.items heads.old }
+pub fn unlink(cells: &mut Vec<Cell>, heads: &mut ChainHeads)
+    requires chained { AreCellsChained cells.old.items heads.old }
     requires some { 0 < length cells.old.items }
     requires heads { HasHeads heads.old }
-    ensures chained { AreChained cells.new.items heads.new }
+    ensures chained { AreCellsChained cells.new.items heads.new }
     ensures cells { cells.new.items ≡ take (length cells.old.items - 1) cells.old.items }
     ensures capacity { vec_capacity cells.new ≡ vec_capacity cells.old }
     ensures many { HasAsMany heads.old heads.new }
@@ -113,11 +113,11 @@ pub fn unlink(cells: &mut Vec<Cell>, heads: &mut Heads)
 }
 
 /// Takes this number of cells from the end.
-pub fn shorten(cells: &mut Vec<Cell>, heads: &mut Heads, gone: usize)
-    requires chained { AreChained cells.old.items heads.old }
+pub fn shorten(cells: &mut Vec<Cell>, heads: &mut ChainHeads, gone: usize)
+    requires chained { AreCellsChained cells.old.items heads.old }
     requires some { gone ≤ length cells.old.items }
     requires heads { 0 < gone → HasHeads heads.old }
-    ensures chained { AreChained cells.new.items heads.new }
+    ensures chained { AreCellsChained cells.new.items heads.new }
     ensures cells { cells.new.items ≡ take (length cells.old.items - gone) cells.old.items }
     ensures capacity { vec_capacity cells.new ≡ vec_capacity cells.old }
     ensures many { HasAsMany heads.old heads.new }

@@ -7,14 +7,14 @@ use crate::types::{Fact, FactGroup, FactSide, Proved};
 pub trait FactsByPlace {
     ghost use Rattle.std.specs.Prelude.{◌≡◌, ◌<◌, List, Some, length, slice_get};
     ghost use Rattle.fact_table.specs.declared.types.Proved.{Proved};
-    ghost use Rattle.fact_table.specs.Lists.{facts_of, AreDistinct};
+    ghost use Rattle.fact_table.specs.Lists.{facts_of, AreDistinctFacts};
 
     ghost facts: { Self → List Proved };
 
     /// The number of facts.
     fn len(&self) -> usize
         ensures count { result ≡ length (facts self.now) }
-        ensures distinct { AreDistinct (facts_of (facts self.now)) };
+        ensures distinct { AreDistinctFacts (facts_of (facts self.now)) };
 
     /// The fact at a place, with its reason.
     fn at(&self, place: usize) -> Proved
@@ -43,9 +43,12 @@ pub trait Facts: FactsByPlace {
     /// The first place past one whose fact has the node first, or none. A plain scan over all the
     /// facts from there on (`next_past`), for checks and tests: `last` is the fast look-up.
     fn next_from(&self, node: u32, after: Option<usize>) -> Option<usize>
-        ensures { IsNextPast (node_at FactSide.From) (facts_of (Self.facts self.now)) node after result };
+        ensures { IsNextPast (node_at FactSide.From) (facts_of (Self.facts self.now))
+            node after result };
 
-    /// The first place past one whose fact has the node last, or none. A plain scan, as `next_from`.
+    /// The first place past one whose fact has the node last, or none. A plain scan, as for
+    /// `next_from`.
     fn next_into(&self, node: u32, after: Option<usize>) -> Option<usize>
-        ensures { IsNextPast (node_at FactSide.Into) (facts_of (Self.facts self.now)) node after result };
+        ensures { IsNextPast (node_at FactSide.Into) (facts_of (Self.facts self.now))
+            node after result };
 }

@@ -2,9 +2,9 @@
 
 ghost use Rattle.std.specs.Prelude.{◌≡◌, ◌+◌, ◌<◌, ◌≤◌, ◌^◌, ℕ, OnOk, OnErr, IfOk, length, slice_index_or};
 ghost use Rattle.std.specs.Vec.{vec_capacity};
-ghost use Rattle.fact_table.specs.Inside.Cells.{AreChained, HasAsMany, HasHeads, cell_facts};
+ghost use Rattle.fact_table.specs.Inside.Cells.{AreCellsChained, HasAsMany, HasHeads, cell_facts};
 
-use crate::cells::{Cell, Heads, put_cell, relink, shorten};
+use crate::cells::{Cell, ChainHeads, put_cell, relink, shorten};
 use crate::facts::{Facts, FactsByPlace};
 use crate::scan::next_past;
 use crate::types::{Fact, FactGroup, FactSide, Proved, Reason};
@@ -25,7 +25,7 @@ const MOST_FACTS: usize = 4_294_967_295;
 pub struct FlatFacts {
     cells: Vec<Cell>,
     reasons: Vec<Reason>,
-    heads: Heads,
+    heads: ChainHeads,
     spare: usize,
 }
 
@@ -36,7 +36,10 @@ impl Model for FlatFacts {
 
     ghost Value = { FactList };
 
-    ghost view = { λ t. record { list = proved_of t.cells.items t.reasons.items; spare = t.spare } };
+    ghost view = { λ t. record {
+      list = proved_of t.cells.items t.reasons.items;
+      spare = t.spare;
+    } };
 
     ghost invariant = { λ t. IsTable t.cells.items t.reasons.items t.heads t.spare
         (vec_capacity t.cells) (vec_capacity t.reasons) };
@@ -54,7 +57,7 @@ impl FlatFacts {
         FlatFacts {
             cells: Vec::new(alloc),
             reasons: Vec::new(alloc),
-            heads: Heads {
+            heads: ChainHeads {
                 same: Vec::new(alloc),
                 from: Vec::new(alloc),
                 into: Vec::new(alloc),
@@ -118,7 +121,7 @@ impl FlatFacts {
     pub fn copy(&self, alloc: Global) -> Result<FlatFacts, AllocError>
         ensures { IfOk result (λ t. t ≡ record { list = self.now.list; spare = 0 }) }
     {
-        let heads = Heads {
+        let heads = ChainHeads {
             same: Vec::from_slice(alloc, self.heads.same.as_slice())?,
             from: Vec::from_slice(alloc, self.heads.from.as_slice())?,
             into: Vec::from_slice(alloc, self.heads.into.as_slice())?,
@@ -135,11 +138,11 @@ impl FlatFacts {
 }
 
 // Makes twice this number of heads for facts and this number for groups, if there are fewer.
-fn widen(cells: &mut Vec<Cell>, heads: &mut Heads, count: usize) -> Result<(), AllocError>
-    requires chained { AreChained cells.old.items heads.old }
+fn widen(cells: &mut Vec<Cell>, heads: &mut ChainHeads, count: usize) -> Result<(), AllocError>
+    requires chained { AreCellsChained cells.old.items heads.old }
     requires small { length cells.old.items < 2 ^ 32 }
     requires some { (0 < count) × (count < 2 ^ 62) }
-    ensures chained { AreChained cells.new.items heads.new }
+    ensures chained { AreCellsChained cells.new.items heads.new }
     ensures facts { cell_facts cells.new.items ≡ cell_facts cells.old.items }
     ensures capacity { vec_capacity cells.new ≡ vec_capacity cells.old }
     ensures ok { OnOk result (HasHeads heads.new) }
@@ -175,13 +178,13 @@ fn clean(heads: &mut Vec<u32>, count: usize)
 
 impl FactsByPlace for FlatFacts {
     ghost use Rattle.std.specs.Prelude.{◌≡◌, ◌+◌, ◌<◌, ◌^◌, length};
-    ghost use Rattle.fact_table.specs.Lists.{AreDistinct, facts_of};
+    ghost use Rattle.fact_table.specs.Lists.{AreDistinctFacts, facts_of};
 
     ghost facts = { λ t. t.list };
 
     fn len(&self) -> usize
         ensures count { result ≡ length self.now.list }
-        ensures distinct { AreDistinct (facts_of self.now.list) }
+        ensures distinct { AreDistinctFacts (facts_of self.now.list) }
         ensures small { length self.now.list + self.now.spare < 2 ^ 32 }
     {
         self.cells.len()

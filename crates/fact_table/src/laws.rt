@@ -1,10 +1,14 @@
 //! Laws on facts: functions that do nothing and whose contracts are the laws.
 
-ghost use Rattle.std.specs.Prelude.{◌≡◌, ℕ};
+ghost use Rattle.std.specs.Prelude.{◌≡◌, ℕ, List, Option};
+ghost use Rattle.fact_table.specs.declared.types.Fact.{Fact};
 ghost use Rattle.fact_table.specs.declared.types.Fact.TheVariants.{Sub, Link};
 ghost use Rattle.fact_table.specs.declared.types.FactSide.{FactSide};
+ghost use Rattle.fact_table.specs.declared.types.FactGroup.{FactGroup};
 ghost use Rattle.fact_table.specs.declared.types.FactGroup.TheVariants.{Subs, Links};
 ghost use Rattle.fact_table.specs.Groups.{group_at, node_at};
+ghost use Rattle.fact_table.specs.Lists.{AreDistinctFacts};
+ghost use Rattle.fact_table.specs.Places.{IsFoundAt, IsLastBelow, IsNextPast};
 
 /// A subsumption is of a group by its node at a side, a link by its node there and its role.
 pub fn facts_have_a_group_at_each_side()
@@ -14,4 +18,17 @@ pub fn facts_have_a_group_at_each_side()
         (group_at FactSide.Into (Link a r b) ≡ Links b r) }
     ensures nodes { (a r b : ℕ) → (node_at FactSide.From (Link a r b) ≡ a) ×
         (node_at FactSide.Into (Link a r b) ≡ b) }
+{}
+
+/// A look-up has one answer at most, so its clause pins it.
+pub fn look_ups_have_one_answer()
+    ensures found { (facts : List Fact) (fact : Fact) (one other : Option ℕ) →
+        AreDistinctFacts facts → IsFoundAt facts fact one → IsFoundAt facts fact other →
+        one ≡ other }
+    ensures last { (side : FactSide) (facts : List Fact) (group : FactGroup) (below : ℕ)
+        (one other : Option ℕ) → IsLastBelow (group_at side) facts group below one →
+        IsLastBelow (group_at side) facts group below other → one ≡ other }
+    ensures next { (side : FactSide) (facts : List Fact) (node : ℕ) (after one other : Option ℕ) →
+        IsNextPast (node_at side) facts node after one →
+        IsNextPast (node_at side) facts node after other → one ≡ other }
 {}

@@ -7,11 +7,13 @@ mod facts;
 mod flat;
 mod laws;
 mod scan;
+#[cfg(test)]
+mod tests;
 mod types;
 mod walks;
 
 pub use facts::{Facts, FactsByPlace};
 pub use flat::FlatFacts;
-pub use laws::facts_have_a_group_at_each_side;
+pub use laws::{facts_have_a_group_at_each_side, look_ups_have_one_answer};
 pub use scan::next_past;
 pub use types::{Fact, FactGroup, FactSide, Proved, Reason, Rule, Source};

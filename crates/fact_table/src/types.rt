@@ -28,7 +28,8 @@ pub enum Rule {
     Both,
     /// `Link(a, r, c)`, from `Sub(a, b)` where b is the node of what leads by r to c.
     Out,
-    /// `Sub(a, d)`, from `Link(a, r, b)` and `Sub(b, c)` where d is the node of what leads by r to c.
+    /// `Sub(a, d)`, from `Link(a, r, b)` and `Sub(b, c)` where d is the node of what leads by r
+    /// to c.
     Into,
     /// `Sub(a, 1)`, from `Link(a, r, b)` and `Sub(b, 1)`: node 1 is `owl:Nothing`.
     Void,

@@ -22,7 +22,8 @@ bucket_of mask fact =
 abbrev pub group_number : FactGroup → ℕ
 group_number (Subs node) = (node * 2) % 2 ^ 64
 group_number (Links node role) =
-    (((node * 2) % 2 ^ 64 + 1) % 2 ^ 64 + ((role * 0x9E37_79B9_7F4A_7C15) % 2 ^ 64) / 2 ^ 40) % 2 ^ 64
+    (((node * 2) % 2 ^ 64 + 1) % 2 ^ 64
+    + ((role * 0x9E37_79B9_7F4A_7C15) % 2 ^ 64) / 2 ^ 40) % 2 ^ 64
 
 unfoldable pub head_of : ℕ → FactGroup → ℕ
 head_of mask group = bit_and (group_number group) mask
