@@ -1,0 +1,2 @@
+pub mod MadeCase
+pub mod Inside
