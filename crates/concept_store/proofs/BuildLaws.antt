@@ -118,7 +118,7 @@ module _ (classes roles : ℕ) (left right : List Axiom) (over_left : AreOver cl
   left_are : AreNumbered classes (names_of classes) (with_trees (names_of classes) (compounds_in left)) roles left (numbered_axioms roles left (nodes_over (names_of classes)))
   left_are = axioms_are classes roles roles left (names_of classes) (names_forest classes) over_left.each
 
-  right_are : (next : ℕ) → AreNumbered classes (with_trees (names_of classes) (compounds_in left)) (trees_of classes left right) next right (numbered_axioms next right (nodes_over (with_trees (names_of classes) (compounds_in left))))
+  pub right_are : (next : ℕ) → AreNumbered classes (with_trees (names_of classes) (compounds_in left)) (trees_of classes left right) next right (numbered_axioms next right (nodes_over (with_trees (names_of classes) (compounds_in left))))
   right_are next = axioms_are classes roles next right (with_trees (names_of classes) (compounds_in left)) left_are.forest over_right.each
 
   -- the lists of trees become no shorter

@@ -8,3 +8,7 @@ pub mod OverLaws
 pub mod MeaningLaws
 pub mod NodeForLaws
 pub mod BuildLaws
+pub mod TestLaws
+pub mod ReadingLaws
+pub mod FrontLaws
+pub mod OverTrees

@@ -3,3 +3,4 @@ pub mod Hashes
 pub mod SameNodes
 pub mod Numbering
 pub mod InTrees
+pub mod Tests

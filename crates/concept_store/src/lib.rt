@@ -3,11 +3,13 @@
 
 mod axioms;
 mod build;
+mod laws;
 mod number;
 mod roles;
 mod store;
 mod types;
 
 pub use build::build_store;
+pub use laws::every_interpretation_has_a_reading;
 pub use store::Store;
 pub use types::{Node, NodeAxiom, RoleNode, StoreFault};
