@@ -1,0 +1,4 @@
+pub mod Rules
+pub mod Reasons
+pub mod Facts
+pub mod Cases
