@@ -84,3 +84,8 @@ theory_of case = record { left = case.store.left; right = case.store.right; rank
 abbrev pub IsMustHave : CaseView → ℕ → Type 0
 IsMustHave case node = (node ≡ 0)
     ⊎ ((class : ℕ) × (class < case.classes) × (node ≡ class + 2) × ¬ (Contains case.excused node))
+
+-- the nodes are those of classes, in ascending order
+pub record IsExcuse (case : CaseView) (nodes : List ℕ) : Type 0 where
+  pub ascending : (one other : ℕ) → one < other → other < length nodes → slice_index nodes one < slice_index nodes other
+  pub classes : All (λ node. (2 ≤ node) × (node < case.classes + 2)) nodes

@@ -2,6 +2,11 @@
 //! the rules of saturation give over it.
 #![tactic(auto)]
 
+mod build;
+mod case;
+mod rows;
 mod types;
 
+pub use build::build_case;
+pub use case::Case;
 pub use types::{AxiomLists, CaseInput, NodeAxiomLists, NodeAxioms};
