@@ -1,12 +1,12 @@
 -- What a case has.
-use Rattle.std.specs.Prelude.{◌≡◌, ℕ, zero, ◌+◌, ◌^◌, ◌<◌, ◌≤◌, List, [], ◌∷◌, map, length, slice_index_or, slice_index, All, Contains, ◌⊎◌, ⊤}
+use Rattle.std.specs.Prelude.{◌≡◌, ℕ, ◌+◌, ◌^◌, ◌<◌, ◌≤◌, List, [], map, length, slice_index_or, slice_index, All, Contains, ◌⊎◌, ⊤}
 use Rattle.el_logic.specs.declared.types.Expr.{Expr}
 use Rattle.el_logic.specs.declared.types.Expr.TheVariants as E
 use Rattle.el_logic.specs.declared.types.Axiom.{Axiom}
 use Rattle.el_logic.specs.declared.types.Axiom.TheVariants as A
 use Rattle.concept_store.specs.declared.types.NodeAxiom.{NodeAxiom}
 use Rattle.concept_store.specs.declared.types.NodeAxiom.TheVariants.{SubClass, SubRole, Transitive}
-use Rattle.concept_store.specs.Roles.{Numbered, AreOver, IsOver, store_of}
+use Rattle.concept_store.specs.Roles.{Numbered, AreOver, store_of}
 use Rattle.case_file.specs.declared.types.CaseInput.{CaseInput}
 use Rattle.case_file.specs.Reasons.{Theory}
 

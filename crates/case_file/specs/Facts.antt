@@ -1,5 +1,5 @@
 -- Facts that are closed under the rules.
-use Rattle.std.specs.Prelude.{◌≡◌, ℕ, ◌+◌, ◌<◌, ◌≤◌, List, Some, slice_get, Contains, ⊤}
+use Rattle.std.specs.Prelude.{◌≡◌, ℕ, ◌+◌, ◌<◌, List, Some, slice_get, Contains}
 use Rattle.concept_store.specs.declared.types.Node.{Node}
 use Rattle.concept_store.specs.declared.types.NodeAxiom.{NodeAxiom}
 use Rattle.concept_store.specs.Reading.{Reading, IsIn, AreLinked, IsWithin}

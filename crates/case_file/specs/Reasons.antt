@@ -1,5 +1,5 @@
 -- The axioms of a case by their sources, facts with their reasons, and derivations.
-use Rattle.std.specs.Prelude.{◌≡◌, ℕ, ◌+◌, ◌<◌, Bool, false, List, [], ◌∷◌, map, Some, slice_get, slice_index_or, Contains, ⊤}
+use Rattle.std.specs.Prelude.{◌≡◌, ℕ, ◌+◌, ◌<◌, false, List, [], map, Some, slice_get, slice_index_or, Contains, ⊤}
 use Rattle.el_logic.specs.declared.types.Part.{Part}
 use Rattle.concept_store.specs.declared.types.Node.{Node}
 use Rattle.concept_store.specs.declared.types.NodeAxiom.{NodeAxiom}

@@ -32,14 +32,14 @@ impl Model for Case {
     ghost coded = { case_code };
 
     ghost view = { λ c. record {
-        store = c.store;
-        left = c.left;
-        right = c.right;
-        rows = c.rows;
-        order = c.order;
-        over = c.over;
-        classes = c.classes;
-        excused = c.excused;
+      store = c.store;
+      left = c.left;
+      right = c.right;
+      rows = c.rows;
+      order = c.order;
+      over = c.over;
+      classes = c.classes;
+      excused = c.excused;
     } };
 
     ghost invariant = { λ c. (length c.order < 2 ^ 31) × (length c.over ≡ length c.order)

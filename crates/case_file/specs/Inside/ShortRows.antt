@@ -1,5 +1,5 @@
 -- Rows whose names have nodes that 32 bits number.
-use Rattle.std.specs.Prelude.{ℕ, ◌^◌, ◌<◌, ⊤}
+use Rattle.std.specs.Prelude.{◌^◌, ◌<◌, ⊤}
 use Rattle.el_logic.specs.declared.types.Axiom.{Axiom}
 use Rattle.el_logic.specs.declared.types.Axiom.TheVariants as A
 use Rattle.case_file.specs.Cases.{name_node}

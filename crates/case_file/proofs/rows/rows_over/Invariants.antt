@@ -1,4 +1,4 @@
-use Rattle.std.proofs.Common.{◌≡◌, All, map, take}
+use Rattle.std.proofs.Common.{◌≡◌, All, take}
 use Rattle.case_file.specs.Cases.{rows_over}
 use Rattle.case_file.specs.Inside.ShortRows.{IsShortRow}
 use Rattle.case_file.proofs.rows.rows_over.Given as goal
