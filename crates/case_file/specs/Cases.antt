@@ -8,7 +8,7 @@ use Rattle.concept_store.specs.declared.types.NodeAxiom.{NodeAxiom}
 use Rattle.concept_store.specs.declared.types.NodeAxiom.TheVariants.{SubClass, SubRole, Transitive}
 use Rattle.concept_store.specs.Roles.{Numbered, AreOver, store_of}
 use Rattle.case_file.specs.declared.types.CaseInput.{CaseInput}
-use Rattle.case_file.specs.Reasons.{Theory}
+use Rattle.el_rules.specs.Theories.{Theory}
 
 -- the store of both ontologies, their axioms, the axioms of the rows, and the index of the row with
 -- each rank. `over` has the axioms over nodes of the row with each rank.
@@ -78,7 +78,7 @@ case_of input = record {
 }
 
 abbrev pub theory_of : CaseView → Theory
-theory_of case = record { left = case.store.left; right = case.store.right; ranks = case.over }
+theory_of case = record { left = case.store.left; right = case.store.right; rows = case.over }
 
 -- the node is one that must have a member: owl:Thing, or a class that the case doesn't excuse
 abbrev pub IsMustHave : CaseView → ℕ → Type 0
