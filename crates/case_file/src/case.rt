@@ -1,0 +1,146 @@
+//! A case.
+
+ghost use Rattle.std.specs.Prelude.{◌≡◌, ◌<◌, Some, length, slice_get, slice_index, slice_index_or, []};
+ghost use Rattle.case_file.specs.Cases.{row_at, IsExcuse};
+
+use crate::{AxiomLists, NodeAxiomLists};
+use concept_store::{NodeAxiom, Store};
+use el_logic::{Axioms, Numbers};
+use std::marker::Model;
+
+/// Two ontologies and the rows of a table, in the order of their ranks, over numbered nodes and
+/// roles. It never changes, except that classes can be excused.
+#[derive(Debug, Drop)]
+pub struct Case {
+    pub(crate) store: Store,
+    pub(crate) left: Axioms,
+    pub(crate) right: Axioms,
+    pub(crate) rows: AxiomLists,
+    pub(crate) order: Numbers,
+    pub(crate) over: NodeAxiomLists,
+    pub(crate) classes: u32,
+    pub(crate) excused: Numbers,
+}
+
+impl Model for Case {
+    ghost use Rattle.std.specs.Prelude.{◌≡◌, ◌^◌, ◌<◌, length, All};
+    ghost use Rattle.case_file.specs.Cases.{CaseView};
+    ghost use Rattle.case_file.specs.Inside.Codes.{case_code};
+
+    ghost Value = { CaseView };
+
+    ghost coded = { case_code };
+
+    ghost view = { λ c. record {
+      store = c.store;
+      left = c.left;
+      right = c.right;
+      rows = c.rows;
+      order = c.order;
+      over = c.over;
+      classes = c.classes;
+      excused = c.excused;
+    } };
+
+    ghost invariant = { λ c. (length c.order < 2 ^ 31) × (length c.over ≡ length c.order)
+        × All (λ index. index < length c.rows) c.order };
+}
+
+impl Case {
+    /// The nodes and roles of both ontologies, and their axioms over these.
+    pub fn store(&self) -> &Store
+        ensures { result.now ≡ self.now.store }
+    {
+        &self.store
+    }
+
+    /// LEFT's axioms as they were given.
+    pub fn left(&self) -> &Axioms
+        ensures { result.now ≡ self.now.left }
+    {
+        &self.left
+    }
+
+    /// RIGHT's axioms as they were given.
+    pub fn right(&self) -> &Axioms
+        ensures { result.now ≡ self.now.right }
+    {
+        &self.right
+    }
+
+    /// How many class names there are, without `owl:Thing` and `owl:Nothing`.
+    pub fn classes(&self) -> u32
+        ensures { result ≡ self.now.classes }
+    {
+        self.classes
+    }
+
+    /// How many rows there are.
+    pub fn ranks(&self) -> u32
+        ensures { result ≡ length self.now.order }
+    {
+        self.order.len() as u32
+    }
+
+    /// The index, from 0, of the row with a rank.
+    pub fn row_of(&self, rank: u32) -> u32
+        requires { rank < length self.now.order }
+        ensures { slice_get self.now.order rank ≡ Some result }
+    {
+        let Some(index) = self.order.get(rank as usize) else {
+            unreachable!()
+        };
+        *index
+    }
+
+    /// The axioms of the row with a rank, as they were given.
+    pub fn axioms_of(&self, rank: u32) -> &Axioms
+        requires { rank < length self.now.order }
+        ensures { result.now ≡ row_at self.now.rows (slice_index self.now.order rank) }
+    {
+        let index = self.order.as_slice()[rank as usize];
+        &self.rows.as_slice()[index as usize]
+    }
+
+    /// The axioms over nodes of the row with a rank.
+    pub fn over_of(&self, rank: u32) -> &[NodeAxiom]
+        requires { rank < length self.now.order }
+        ensures { result.now ≡ slice_index_or self.now.over rank [] }
+    {
+        self.over.as_slice()[rank as usize].as_slice()
+    }
+
+    /// The case in which these class nodes, which ascend, need no member.
+    pub fn excuse(self, nodes: Numbers) -> Case
+        requires { IsExcuse self nodes }
+        ensures { result ≡ record self { excused = nodes } }
+    {
+        let Case {
+            store,
+            left,
+            right,
+            rows,
+            order,
+            over,
+            classes,
+            excused: _,
+        } = self;
+        Case {
+            store,
+            left,
+            right,
+            rows,
+            order,
+            over,
+            classes,
+            excused: nodes,
+        }
+    }
+
+    /// The class nodes that need no member, in ascending order.
+    pub fn excused(&self) -> &[u32]
+        ensures { result.now ≡ self.now.excused }
+    {
+        self.excused.as_slice()
+    }
+}
