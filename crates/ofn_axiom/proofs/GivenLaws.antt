@@ -1,6 +1,6 @@
 -- What an item gives, by its form.
 use Rattle.std.proofs.Common.{◌≡◌, ℕ, List, map, ap, sym, ◌∙◌}
-use Rattle.std.specs.Prelude.{Bool, false, Option, Some, None, Result, Err}
+use Rattle.std.specs.Prelude.{false, Option, Some, None}
 use Rattle.ofn_lex.specs.declared.token.Token.{Token}
 use Rattle.ofn_term.specs.declared.item.Item.{Item, fold-Item}
 use Rattle.ofn_term.specs.declared.item.Item.TheOpen.{Item-F}

@@ -3,3 +3,11 @@ pub mod NumberLaws
 pub mod TakingLaws
 pub mod ReadLaws
 pub mod PlainLaws
+pub mod Gave
+pub mod StandsLaws
+pub mod StandsBack
+pub mod SizeLaws
+pub mod ChainLaws
+pub mod AxiomLaws
+pub mod AxiomBack
+pub mod AnswerLaws

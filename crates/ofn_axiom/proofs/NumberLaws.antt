@@ -1,6 +1,6 @@
 -- Names of class expressions, numbers in their place, and tables that only grow.
-use Rattle.std.proofs.Common.{◌≡◌, ℕ, Bool, true, false, cond, List, [], ◌∷◌, ◌++◌, length, map, refl, ap, sym, ◌∙◌, arith}
-use Rattle.std.specs.Prelude.{not, ◌&&◌, ◌==◌}
+use Rattle.std.proofs.Common.{◌≡◌, ℕ, Bool, true, false, List, [], ◌∷◌, ◌++◌, length, map, refl, ap, sym, ◌∙◌, arith}
+use Rattle.std.specs.Prelude.{◌==◌}
 use Rattle.std.proofs.lemmas.List.{append-nil, append_assoc}
 use Rattle.std.proofs.lemmas.Bool.Decides.{nat_tests}
 use Rattle.el_logic.specs.declared.types.Expr.{Expr}
@@ -14,7 +14,7 @@ use Rattle.ofn_axiom.specs.declared.types.IriExpr.TheVariants.{rolls-Top, rolls-
 use Rattle.ofn_axiom.specs.declared.types.Mention.{Mention}
 use Rattle.ofn_axiom.specs.declared.types.Mention.TheVariants as mention
 use Rattle.ofn_axiom.specs.declared.types.Names.{Names}
-use Rattle.ofn_axiom.specs.Numbers.{mentions, mention_step, all_mentions, is_full_for, held_in, number_in, expr_over, expr_step}
+use Rattle.ofn_axiom.specs.Numbers.{mentions, mention_step, all_mentions, is_full_for, number_in, expr_over, expr_step}
 use Rattle.ofn_axiom.specs.Taking.{IsTableBefore, IsNamesBefore}
 
 -- the names of an expression, by its form

@@ -1,17 +1,14 @@
 -- If only the part in the profile is asked for, no fault is that something is outside of it.
-use Rattle.std.proofs.Common.{◌≡◌, ℕ, ◌-◌, Bool, true, false, cond, List, [], ◌∷◌, map, refl, ap, sym, subst, ◌∙◌}
+use Rattle.std.proofs.Common.{◌≡◌, ℕ, ◌-◌, Bool, true, false, cond, List, [], ◌∷◌, map, refl, sym, subst}
 use Rattle.std.specs.Prelude.{nat_eq, Option, Some, None, Result, Ok, Err, IfErr, ⊤}
-use Rattle.ofn_lex.specs.declared.token.Token.{Token}
 use Rattle.ofn_term.specs.declared.item.Item.{Item, roll-Item}
 use Rattle.ofn_term.specs.declared.item.Item.TheOpen.{Item-F}
 use Rattle.ofn_term.specs.declared.item.Item.TheFolds.{ind-Item}
 use Rattle.ofn_term.specs.declared.item.Item.TheVariants.{rolls-Atom, rolls-Group}
-use Rattle.ofn_term.specs.Words.{bytes_of}
 use Rattle.ofn_heads.specs.declared.iri.Named.{Named}
 use Rattle.ofn_heads.specs.declared.iri.Named.TheVariants as named
-use Rattle.ofn_heads.specs.Heads.{head_of}
 use Rattle.ofn_heads.specs.Names.{known}
-use Rattle.text_names.specs.Prefixes.{Prefixes, iri_of, with_prefix}
+use Rattle.text_names.specs.Prefixes.{Prefixes, iri_of}
 use Rattle.ofn_axiom.specs.declared.fault.OffsetFault.{OffsetFault}
 use Rattle.ofn_axiom.specs.declared.fault.OffsetFault.TheVariants as fault
 use Rattle.ofn_axiom.specs.declared.fault.DocFault.{DocFault}
@@ -23,12 +20,12 @@ use Rattle.ofn_axiom.specs.declared.types.Direct.{Direct}
 use Rattle.ofn_axiom.specs.declared.types.Mention.{Mention}
 use Rattle.ofn_axiom.specs.declared.types.Mention.TheVariants as mention
 use Rattle.ofn_axiom.specs.declared.types.Names.{Names}
-use Rattle.ofn_axiom.specs.declared.types.Mode.TheVariants.{Strict, ElPart}
+use Rattle.ofn_axiom.specs.declared.types.Mode.TheVariants.{ElPart}
 use Rattle.ofn_axiom.specs.Steps.{◌>>=◌}
 use Rattle.ofn_axiom.specs.Numbers.{with_mention, with_mentions, direct_mentions, is_full_for}
 use Rattle.ofn_axiom.specs.Taking.{State, taken, added}
-use Rattle.ofn_axiom.specs.Given.{Given, given, prefix_parts, prefix_group, after_iri, after_iris, directs, ontology_group}
-use Rattle.ofn_axiom.specs.Documents.{is_other, declared, declared_with, is_prefix, is_ontology, Found, to_ontology, ended, document_of, empty, placed, IsDocFault, no_text, no_token, unopened, unclosed, too_deep, terms, doc_ran_out, is_profile}
+use Rattle.ofn_axiom.specs.Given.{Given, given, prefix_parts, prefix_group, after_iri, after_iris, directs}
+use Rattle.ofn_axiom.specs.Documents.{is_other, declared, declared_with, is_prefix, is_ontology, to_ontology, ended, document_of, empty, placed, IsDocFault, no_text, no_token, unopened, unclosed, too_deep, terms, doc_ran_out, is_profile}
 use Rattle.ofn_axiom.proofs.GivenLaws.{atom_gives, bare_gives, group_gives, ontology_gives}
 
 -- the fault is not that something is outside the profile

@@ -1,6 +1,8 @@
 -- Faults of a document, from those of its bytes, its items and what they say.
-use Rattle.std.proofs.Common.{◌≡◌, ℕ, List, take, refl, sym, subst}
-use Rattle.std.specs.Prelude.{Bool, Result, Ok, Err, IsUtf8}
+use Rattle.std.proofs.Common.{◌≡◌, ℕ, ◌≤◌, Bool, true, false, cond, List, length, take, drop, refl, subst, arith}
+use Rattle.std.specs.Prelude.{Some, None, Err, IsUtf8, bytes_eq, unwrap_or}
+use Rattle.std.proofs.lemmas.List.{length-drop}
+use Rattle.byte_words.specs.Fronts.{byte_order_mark, without_mark}
 use Rattle.std.specs.Str.{IsValidUpTo}
 use Rattle.byte_words.specs.Faults.{OrOutOfMemory}
 use Rattle.ofn_term.specs.declared.item.Item.{Item}
@@ -18,6 +20,14 @@ use Rattle.ofn_axiom.specs.declared.types.Mode.{Mode}
 use Rattle.ofn_axiom.specs.Taking.{place_at}
 use Rattle.ofn_axiom.specs.Documents.{document_of, empty, placed, IsNoText, IsDocFault, no_text, no_token, unopened, unclosed, too_deep, terms, doc_ran_out}
 use Rattle.ofn_axiom.specs.Inside.Places.{term_placed}
+
+-- a text without its mark is not longer
+pub mark_shorter : (bytes : List ℕ) → length (without_mark bytes) ≤ length bytes
+mark_shorter bytes = by (bytes_eq (take (length byte_order_mark) bytes) byte_order_mark)
+  where
+    by : (b : Bool) → length (unwrap_or (cond b (Some (drop 3 bytes)) None) bytes) ≤ length bytes
+    by true = omega (arith, length-drop 3 bytes)
+    by false = omega arith
 
 -- bytes that are not UTF-8
 pub no_text_here : (text whole : List ℕ) (mode : Mode) (depth : ℕ) (old : Names) (n : ℕ) (place : Place) → text ≡ whole → IsValidUpTo text n → place ≡ place_after (take n text) → IsDocFault whole mode depth old (doc.Syntax place kind.NotUtf8)

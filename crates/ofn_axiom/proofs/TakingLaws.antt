@@ -1,5 +1,5 @@
 -- Places, and what prefixes are declared with.
-use Rattle.std.proofs.Common.{◌≡◌, ◌≢◌, ℕ, Bool, true, false, List, length, take, refl, ap, sym, ◌∙◌}
+use Rattle.std.proofs.Common.{◌≡◌, ◌≢◌, ℕ, Bool, true, false, List, length, take, refl, sym, ◌∙◌}
 use Rattle.std.specs.Prelude.{not, bytes_eq, IsSomeAnd, Option, Some, None}
 use Rattle.std.specs.Cmp.Lexicographic.{bytes_decides}
 use Rattle.std.proofs.Math.Seq.{take-length}

@@ -1,5 +1,5 @@
 -- What a document has: a reading, or a first fault.
-use Rattle.std.specs.Prelude.{◌≡◌, ℕ, Bool, true, false, not, if◌then◌else◌, List, [], ◌∷◌, length, take, bytes_eq, Option, Some, None, Result, Ok, Err, IsUtf8, ⊤}
+use Rattle.std.specs.Prelude.{◌≡◌, ℕ, Bool, true, false, not, if◌then◌else◌, List, [], ◌∷◌, length, take, bytes_eq, Option, Some, None, Result, Ok, Err, IsUtf8}
 use Rattle.std.specs.Str.{IsValidUpTo}
 use Rattle.byte_words.specs.Faults.{OrOutOfMemory}
 use Rattle.byte_words.specs.Fronts.{without_mark}
@@ -8,7 +8,6 @@ use Rattle.ofn_term.specs.declared.fault.TermFault.TheVariants as term
 use Rattle.ofn_term.specs.Texts.{HasItems, HasFault}
 use Rattle.ofn_heads.specs.declared.head.Head.{Head}
 use Rattle.ofn_heads.specs.declared.head.Head.TheVariants as head
-use Rattle.ofn_heads.specs.declared.outside.HeadId.{HeadId}
 use Rattle.ofn_heads.specs.Names.{known}
 use Rattle.text_names.specs.Place.{place_after}
 use Rattle.text_names.specs.Prefixes.{Prefixes, iri_of, with_prefix}

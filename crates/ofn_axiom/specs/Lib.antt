@@ -4,3 +4,5 @@ pub mod Taking
 pub mod Given
 pub mod Documents
 pub mod Inside
+pub mod StandsFor
+pub mod Answers

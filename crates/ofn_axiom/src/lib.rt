@@ -6,6 +6,7 @@ mod classes;
 mod document;
 mod fault;
 mod items;
+mod laws;
 mod numbers;
 mod ontology;
 mod read;
@@ -14,6 +15,11 @@ mod tests;
 mod types;
 
 pub use fault::{DocFault, DocKind};
+pub use laws::{
+    axioms_are_what_states_them, chains_are_what_stands_for_them, classes_are_what_stands_for_them,
+    each_document_has_one_answer, el_parts_are_never_refused_for_the_profile,
+    properties_are_what_stands_for_them,
+};
 pub use ofn_heads::HeadId;
 pub use read::read_document;
 pub use types::{Document, Mode, Names, Omitted, OmittedList, SideOmitted};

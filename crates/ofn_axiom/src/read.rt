@@ -1,6 +1,6 @@
 //! Reading a document.
 
-ghost use Rattle.std.specs.Prelude.{◌≡◌, ◌≤◌, length, false, IfOk, IfErr, IsUtf8};
+ghost use Rattle.std.specs.Prelude.{◌≡◌, ◌≤◌, ◌+◌, length, false, IfOk, IfErr, IsUtf8};
 ghost use Rattle.byte_words.specs.Faults.{OrOutOfMemory};
 ghost use Rattle.ofn_axiom.specs.Documents.{placed, fault_at, IsDocAnswer, IsReading, IsDocFault, doc_ran_out, is_profile};
 ghost use Rattle.ofn_axiom.specs.declared.types.Mode.TheVariants.{ElPart};
@@ -12,7 +12,7 @@ use crate::fault::{DocFault, DocKind, OffsetFault, Stop};
 use crate::ontology::place_at;
 use crate::types::{Document, Mode, Names};
 use byte_words::without_mark;
-use ofn_term::{TermFault, read_items};
+use ofn_term::{TermFault, items_are_written_out, read_items};
 use std::alloc::Global;
 use text_names::{Limits, place_of};
 
@@ -25,6 +25,7 @@ use text_names::{Limits, place_of};
 ///
 /// In the mode `ElPart` an axiom that is outside the fragment is left out and listed, and none of
 /// its names is held.
+#[tactic(auto, using(crate::proofs::ReadLaws::mark_shorter))]
 pub fn read_document(
     alloc: Global,
     bytes: &[u8],
@@ -37,6 +38,8 @@ pub fn read_document(
     requires properties { names.old.roles.most ≡ limits.now.properties }
     ensures answer { IsDocAnswer bytes.now mode limits.now.depth names.old names.new result }
     ensures profile { mode ≡ ElPart → IfErr result (λ fault. is_profile fault ≡ false) }
+    ensures few { IfOk result (λ document.
+        length document.axioms + length document.omitted ≤ length bytes.now) }
     ensures grows { IsNamesBefore names.old names.new }
 {
     let text = without_mark(bytes);
@@ -65,12 +68,15 @@ fn read_text(
     ensures fault { IfErr result (OrOutOfMemory doc_ran_out
         (IsDocFault text.now mode depth names.old)) }
     ensures profile { mode ≡ ElPart → IfErr result (λ fault. is_profile fault ≡ false) }
+    ensures few { IfOk result (λ document.
+        length document.axioms + length document.omitted ≤ length text.now) }
     ensures grows { IsNamesBefore names.old names.new }
 {
     let items = match read_items(alloc, text, depth) {
         Ok(items) => items,
         Err(fault) => return Err(term_placed(text, fault)),
     };
+    items_are_written_out();
     match document_of(alloc, text, mode, items.as_slice(), names) {
         Ok(document) => Ok(document),
         Err(Stop::Memory) => Err(DocFault::OutOfMemory),

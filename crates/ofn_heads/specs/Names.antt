@@ -1,5 +1,5 @@
 -- Pieces of a text, IRIs and prefixes.
-use Rattle.std.specs.Prelude.{◌≡◌, ℕ, ◌+◌, ◌-◌, Bool, true, false, ◌&&◌, nat_le, nat_lt, if◌then◌else◌, List, [], ◌∷◌, ◌++◌, length, slice_range, codes, Option, Some, None}
+use Rattle.std.specs.Prelude.{ℕ, ◌+◌, ◌-◌, Bool, true, false, ◌&&◌, nat_le, nat_lt, if◌then◌else◌, List, [], ◌∷◌, ◌++◌, length, slice_range, codes, Option, Some, None}
 use Rattle.std.specs.Str.{is_utf8}
 use Rattle.ofn_lex.specs.declared.token.Token.{Token}
 use Rattle.ofn_lex.specs.declared.token.TokenKind.{TokenKind}

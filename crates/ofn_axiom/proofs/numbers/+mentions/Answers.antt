@@ -1,4 +1,4 @@
-use Rattle.std.proofs.Common.{◌≡◌, ap, ◌∙◌}
+use Rattle.std.proofs.Common.{ap, ◌∙◌}
 use Rattle.ofn_axiom.specs.Numbers.{mentions}
 use Rattle.ofn_axiom.proofs.NumberLaws.{none_after, mentions_top, mentions_bottom}
 use Rattle.ofn_axiom.proofs.numbers.+mentions.Goals as goal

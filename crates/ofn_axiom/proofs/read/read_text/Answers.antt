@@ -1,4 +1,6 @@
-use Rattle.std.proofs.Common.{◌≡◌, sym, subst}
+use Rattle.std.proofs.Common.{◌≡◌, ◌≤◌, length, sym, subst, arith}
+use Rattle.ofn_term.specs.Writing.{tokens_of}
+use Rattle.ofn_axiom.proofs.SizeLaws.{document_size}
 use Rattle.std.specs.Prelude.{Err}
 use Rattle.byte_words.specs.Faults.{OrOutOfMemory}
 use Rattle.ofn_axiom.specs.declared.fault.DocFault.{DocFault}
@@ -21,3 +23,10 @@ returns-clause-fault c =
 
 pub returns-clause-profile : goal.returns-clause-profile
 returns-clause-profile c = λ same. answer_plain c.args.text.now c.args.mode c.args.depth c.args.names.now (Err c.placed.result) same (returns-clause-fault c)
+
+pub returns-in-Ok-document_of-clause-few : goal.returns-in-Ok-document_of-clause-few
+returns-in-Ok-document_of-clause-few c =
+    let written = c.items_are_written_out.ensures in
+    let small = document_size written.group written.few c.args.text.now c.args.mode c.as_slice.result.now _ _ c.in-Ok-document_of.document c.in-Ok-document_of.ensures.ok in
+    let few : length (tokens_of c.as_slice.result.now) ≤ length c.args.text.now = rw c.as_slice.ensures c.in-Ok.ensures.few in
+    omega (arith, small, few)

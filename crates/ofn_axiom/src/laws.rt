@@ -1,0 +1,79 @@
+//! Laws on documents: functions that do nothing and whose contracts are the laws.
+
+ghost use Rattle.std.specs.Prelude.{◌≡◌, ℕ, List, Ok, false};
+ghost use Rattle.ofn_axiom.specs.Answers.{HasDocAnswer};
+ghost use Rattle.ofn_axiom.specs.Documents.{IsReading, IsDocFault, is_profile};
+ghost use Rattle.ofn_axiom.specs.declared.fault.DocFault.{DocFault};
+ghost use Rattle.ofn_axiom.specs.declared.types.Document.{Document};
+ghost use Rattle.ofn_axiom.specs.declared.types.Mode.{Mode};
+ghost use Rattle.ofn_axiom.specs.declared.types.Mode.TheVariants.{ElPart};
+ghost use Rattle.ofn_axiom.specs.declared.types.Names.{Names};
+ghost use Rattle.ofn_term.specs.declared.item.Item.{Item};
+ghost use Rattle.text_names.specs.Prefixes.{Prefixes};
+ghost use Rattle.ofn_axiom.specs.Given.{given};
+ghost use Rattle.ofn_axiom.specs.StandsFor.{IsProperty, IsClass, IsChain, IsAxiom};
+ghost use Rattle.ofn_axiom.specs.declared.types.IriExpr.{IriExpr};
+ghost use Rattle.ofn_axiom.specs.declared.types.IriAxiom.{IriAxiom};
+ghost use Rattle.ofn_axiom.specs.declared.types.Direct.TheVariants as direct;
+
+use ofn_term::each_text_has_items_or_one_first_fault;
+
+/// An item is read as a property if and only if it stands for it.
+pub fn properties_are_what_stands_for_them()
+    ensures read { (text : List ℕ) (prefixes : Prefixes) (item : Item) (iri : List ℕ) →
+        IsProperty text prefixes item iri → (given text prefixes item).property ≡ Ok iri }
+    ensures stands { (text : List ℕ) (prefixes : Prefixes) (item : Item) (iri : List ℕ) →
+        (given text prefixes item).property ≡ Ok iri → IsProperty text prefixes item iri }
+{}
+
+/// An item is read as a class expression if and only if it stands for it.
+pub fn classes_are_what_stands_for_them()
+    ensures read { (text : List ℕ) (prefixes : Prefixes) (item : Item) (class : IriExpr) →
+        IsClass text prefixes item class → (given text prefixes item).class ≡ Ok class }
+    ensures stands { (text : List ℕ) (prefixes : Prefixes) (item : Item) (class : IriExpr) →
+        (given text prefixes item).class ≡ Ok class → IsClass text prefixes item class }
+{}
+
+/// The first item of `SubObjectPropertyOf` is read as properties in a row if and only if it is one
+/// property or a chain of them.
+pub fn chains_are_what_stands_for_them()
+    ensures read { (text : List ℕ) (prefixes : Prefixes) (item : Item) (iris : List (List ℕ)) →
+        IsChain text prefixes item iris → (given text prefixes item).chain ≡ Ok iris }
+    ensures stands { (text : List ℕ) (prefixes : Prefixes) (item : Item) (iris : List (List ℕ)) →
+        (given text prefixes item).chain ≡ Ok iris → IsChain text prefixes item iris }
+{}
+
+/// An item of an ontology is read as an axiom if and only if it states it: a head with annotations
+/// and operands.
+pub fn axioms_are_what_states_them()
+    ensures read { (text : List ℕ) (prefixes : Prefixes) (item : Item) (said : IriAxiom) →
+        IsAxiom text prefixes item said →
+        (given text prefixes item).direct ≡ Ok (direct.Axiom said) }
+    ensures stands { (text : List ℕ) (prefixes : Prefixes) (item : Item) (said : IriAxiom) →
+        (given text prefixes item).direct ≡ Ok (direct.Axiom said) →
+        IsAxiom text prefixes item said }
+{}
+
+/// A text has, for given limits and names that are held, one reading or one first fault, and never
+/// both.
+pub fn each_document_has_one_answer()
+    ensures some { (text : List ℕ) (mode : Mode) (depth : ℕ) (old : Names) →
+        HasDocAnswer text mode depth old }
+    ensures never_both { (text : List ℕ) (mode : Mode) (depth : ℕ) (old new : Names)
+        (document : Document) (fault : DocFault) →
+        IsReading text mode depth old new document → IsDocFault text mode depth old fault → ⊥ }
+    ensures one_reading { (text : List ℕ) (mode : Mode) (depth : ℕ) (old new other : Names)
+        (document another : Document) → IsReading text mode depth old new document →
+        IsReading text mode depth old other another → (document ≡ another) × (new ≡ other) }
+    ensures one_fault { (text : List ℕ) (mode : Mode) (depth : ℕ) (old : Names)
+        (fault other : DocFault) → IsDocFault text mode depth old fault →
+        IsDocFault text mode depth old other → fault ≡ other }
+{
+    each_text_has_items_or_one_first_fault();
+}
+
+/// If only the part in the profile is asked for, no first fault is that something is outside of it.
+pub fn el_parts_are_never_refused_for_the_profile()
+    ensures { (text : List ℕ) (depth : ℕ) (old : Names) (fault : DocFault) →
+        IsDocFault text ElPart depth old fault → is_profile fault ≡ false }
+{}
