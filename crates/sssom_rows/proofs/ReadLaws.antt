@@ -85,7 +85,7 @@ row_fault most bytes (fault.Confidence row) h = h
 row_fault most bytes fault.OutOfMemory h = absurd h.at_fault.at_fault
 
 -- the fault of the records is that of the table
-first_is : (most : ℕ) (bytes head : List ℕ) (prefixes : Prefixes) (records : List FieldList) (found : TableFault)
+pub first_is : (most : ℕ) (bytes head : List ℕ) (prefixes : Prefixes) (records : List FieldList) (found : TableFault)
     → AreParts bytes head prefixes records → AreRecordsFault most prefixes records found → IsFirstTableFault most bytes found
 first_is most bytes head prefixes [] found parts h =
     subst (λ (f : TableFault). IsFirstTableFault most bytes f) (sym h) (record { head = head; prefixes = prefixes; parts = parts })

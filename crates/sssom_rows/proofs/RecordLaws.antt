@@ -82,7 +82,7 @@ pub record IsNext (s : State) (text : List ℕ) (p : Read) : Type 0 where
   pub shorter : length p.2 + cond (ends_at_end s) 0 1 ≤ length text
   pub out : ends_at_end p.1 ≡ false
 
-some_is : (p q : Read) → Some p ≡ Some q → p ≡ q
+pub some_is : (p q : Read) → Some p ≡ Some q → p ≡ q
 some_is p q e = cc e
 
 -- which way a test went
