@@ -6,3 +6,5 @@ pub mod MarkLaws
 pub mod SoundLaws
 pub mod EventLaws
 pub mod JournalLaws
+pub mod StayLaws
+pub mod GrowthLaws

@@ -18,7 +18,7 @@ kept_or_removed Kept decided = inl refl
 kept_or_removed Removed decided = inr refl
 
 -- past the last rank nothing is known
-open_past : (marks : List Mark) (rank : ℕ) → length marks ≤ rank → mark_at marks rank ≡ Open
+pub open_past : (marks : List Mark) (rank : ℕ) → length marks ≤ rank → mark_at marks rank ≡ Open
 open_past [] rank outside = refl
 open_past (x ∷ xs) zero outside = absurd (omega arith)
 open_past (x ∷ xs) (suc rank) outside = open_past xs rank (omega arith)

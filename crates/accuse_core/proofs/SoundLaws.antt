@@ -37,18 +37,18 @@ from_take : (ranks : List ℕ) (seen rank : ℕ) → Contains (take seen ranks) 
 from_take ranks seen rank held = subst (λ xs. Contains xs rank) (take-append-drop seen ranks) (Contains-append_left (take seen ranks) (drop seen ranks) rank held)
 
 -- a noted rank is a rank
-noted_inside : (marks : List Mark) (rank seen : ℕ) → mark_at marks rank ≡ Yes seen → rank < length marks
+pub noted_inside : (marks : List Mark) (rank seen : ℕ) → mark_at marks rank ≡ Yes seen → rank < length marks
 noted_inside [] rank seen yes_mark = cc
 noted_inside (x ∷ xs) zero seen yes_mark = omega arith
 noted_inside (x ∷ xs) (suc rank) seen yes_mark = let later = noted_inside xs rank seen yes_mark in omega arith
 
 -- a mark that waits is a yes over all kept ranks
-record Waits (count : ℕ) (mark : Mark) : Type 0 where
-  seen : ℕ
-  is : mark ≡ Yes seen
-  all : seen ≡ count
+pub record Waits (count : ℕ) (mark : Mark) : Type 0 where
+  pub seen : ℕ
+  pub is : mark ≡ Yes seen
+  pub all : seen ≡ count
 
-waits : (count : ℕ) (mark : Mark) → is_yes_over count mark ≡ true → Waits count mark
+pub waits : (count : ℕ) (mark : Mark) → is_yes_over count mark ≡ true → Waits count mark
 waits count Open yes_over = cc
 waits count (Yes seen) yes_over = record { seen = seen; is = refl; all = eqb-true seen count yes_over }
 waits count Kept yes_over = cc

@@ -8,10 +8,10 @@ ghost use Rattle.conflict_logic.specs.Greedy.{family_of};
 ghost use Rattle.accuse_core.specs.declared.event.Event.{Event};
 ghost use Rattle.accuse_core.specs.declared.journal.Entry.{Entry};
 ghost use Rattle.accuse_core.specs.declared.mark.Mark.{Mark};
-ghost use Rattle.accuse_core.specs.Marks.{is_decided, is_yes_over, kept_unless_removed, with_block, opening, mark_at, kept_of, kept_count, front_of};
+ghost use Rattle.accuse_core.specs.Marks.{is_decided, is_yes_over, kept_unless_removed, with_kept, with_removed, with_note, with_block, block_of, settled, opening, mark_at, kept_of, kept_count, front_of};
 ghost use Rattle.accuse_core.specs.Events.{outcome, IsAllowed};
 ghost use Rattle.accuse_core.specs.Journal.{after, AreAllowed, replayed, IsJournal};
-ghost use Rattle.accuse_core.specs.Sound.{AreSound};
+ghost use Rattle.accuse_core.specs.Sound.{AreKeptBeforeFront, AreSound};
 
 use conflict_logic::Family;
 use conflict_logic::certificate::{
@@ -86,6 +86,30 @@ pub fn journals_grow_by_an_event<F: Family>(family: &F)
 {
     let _ = family;
 }
+
+/// What each change puts at the end of the kept ranks, where none is kept from the front on.
+pub fn kept_ranks_only_grow()
+    ensures front { (marks : List Mark) → AreKeptBeforeFront marks
+        → front_of marks < length marks
+        → kept_of (with_kept marks (front_of marks)) ≡ kept_of marks ++ front_of marks ∷ [] }
+    ensures block { (marks : List Mark) (count : ℕ) → AreKeptBeforeFront marks
+        → kept_of (with_block marks (front_of marks) count)
+        ≡ kept_of marks ++ block_of marks (front_of marks) count }
+    ensures removed { (marks : List Mark) (rank : ℕ) → is_decided (mark_at marks rank) ≡ false
+        → kept_of (with_removed marks rank) ≡ kept_of marks }
+    ensures noted { (marks : List Mark) (rank seen : ℕ) → is_decided (mark_at marks rank) ≡ false
+        → kept_of (with_note marks rank seen) ≡ kept_of marks }
+    ensures waiting { (marks : List Mark) → AreKeptBeforeFront marks
+        → is_yes_over (kept_count marks) (mark_at marks (front_of marks)) ≡ true
+        → kept_of (settled marks) ≡ kept_of marks ++ front_of marks ∷ [] }
+{}
+
+/// Whatever event comes, a kept rank stays kept, and a removed one stays removed.
+pub fn decided_ranks_keep_their_marks()
+    ensures { (marks : List Mark) (event : Event) (rank : ℕ)
+        → is_decided (mark_at marks rank) ≡ true
+        → mark_at (outcome marks event).marks rank ≡ mark_at marks rank }
+{}
 
 /// No event adds or takes away a rank.
 pub fn events_leave_the_ranks()
