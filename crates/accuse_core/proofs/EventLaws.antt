@@ -5,7 +5,7 @@ use Rattle.std.proofs.Math.Seq.{take-length}
 use Rattle.accuse_core.specs.declared.mark.Mark.{Mark}
 use Rattle.accuse_core.specs.declared.event.Event.{Event}
 use Rattle.accuse_core.specs.declared.event.Event.TheVariants.{Take, TakeFront, No, Yes, Block}
-use Rattle.accuse_core.specs.Marks.{is_decided, is_yes_over, mark_at, kept_of, kept_count, front_of, with_kept, with_removed, with_note, with_block, settled}
+use Rattle.accuse_core.specs.Marks.{is_decided, is_yes_over, mark_at, kept_of, number_kept, front_of, with_kept, with_removed, with_note, with_block, settled}
 use Rattle.accuse_core.specs.Events.{outcome, on_yes, IsAllowed}
 use Rattle.accuse_core.specs.Journal.{after, AreAllowed}
 use Rattle.accuse_core.specs.Inside.Watching.{AreWatched, AreAtRest}
@@ -15,23 +15,23 @@ use Rattle.accuse_core.proofs.SoundLaws.{keep_watched, settle_to_rest, remove_wa
 -- settling leaves the number of ranks
 settled_length : (marks : List Mark) → length (settled marks) ≡ length marks
 settled_length marks = ⊎_elim
-    (λ (waits : is_yes_over (kept_count marks) (mark_at marks (front_of marks)) ≡ true). rw (waits, length-set) refl)
-    (λ (not_over : is_yes_over (kept_count marks) (mark_at marks (front_of marks)) ≡ false). rw not_over refl)
-    (cases_Bool (is_yes_over (kept_count marks) (mark_at marks (front_of marks))))
+    (λ (waits : is_yes_over (number_kept marks) (mark_at marks (front_of marks)) ≡ true). rw (waits, length-set) refl)
+    (λ (not_over : is_yes_over (number_kept marks) (mark_at marks (front_of marks)) ≡ false). rw not_over refl)
+    (cases_Bool (is_yes_over (number_kept marks) (mark_at marks (front_of marks))))
 
 yes_length : (marks : List Mark) (rank seen : ℕ) → length (on_yes marks rank seen).marks ≡ length marks
 yes_length marks rank seen = ⊎_elim
     (λ (late : is_decided (mark_at marks rank) ≡ true). rw late refl)
     (λ (undecided : is_decided (mark_at marks rank) ≡ false). ⊎_elim
-    (λ (stale : ltb seen (kept_count marks) ≡ true). rw (undecided, stale) refl)
-    (λ (fresh : ltb seen (kept_count marks) ≡ false). ⊎_elim
+    (λ (stale : ltb seen (number_kept marks) ≡ true). rw (undecided, stale) refl)
+    (λ (fresh : ltb seen (number_kept marks) ≡ false). ⊎_elim
     (λ (here : eqb rank (front_of marks) ≡ true). rw (undecided, fresh, here, settled_length (with_kept marks rank), length-set) refl)
     (λ (elsewhere : eqb rank (front_of marks) ≡ false). ⊎_elim
     (λ (far : leb (front_of marks + 64) rank ≡ true). rw (undecided, fresh, elsewhere, far) refl)
     (λ (near : leb (front_of marks + 64) rank ≡ false). rw (undecided, fresh, elsewhere, near, settled_length (with_note marks rank seen), length-set) refl)
     (cases_Bool (leb (front_of marks + 64) rank)))
     (cases_Bool (eqb rank (front_of marks))))
-    (cases_Bool (ltb seen (kept_count marks))))
+    (cases_Bool (ltb seen (number_kept marks))))
     (cases_Bool (is_decided (mark_at marks rank)))
 
 -- an event leaves the number of ranks
@@ -56,17 +56,17 @@ after_length marks [] = refl
 after_length marks (event ∷ events) = after_length (outcome marks event).marks events ∙ outcome_length marks event
 
 module _ (incoherent : List ℕ → Type 0) where
-  yes_at_rest : (marks : List Mark) (rank seen : ℕ) → rank < length marks → seen ≤ kept_count marks
+  yes_at_rest : (marks : List Mark) (rank seen : ℕ) → rank < length marks → seen ≤ number_kept marks
       → ¬ (incoherent (take seen (kept_of marks) ++ rank ∷ [])) → AreAtRest incoherent marks → AreAtRest incoherent (on_yes marks rank seen).marks
   yes_at_rest marks rank seen inside few coherent w = ⊎_elim
       (λ (late : is_decided (mark_at marks rank) ≡ true). rw late w)
       (λ (undecided : is_decided (mark_at marks rank) ≡ false). ⊎_elim
-      (λ (stale : ltb seen (kept_count marks) ≡ true). rw (undecided, stale) w)
-      (λ (fresh : ltb seen (kept_count marks) ≡ false). ⊎_elim
+      (λ (stale : ltb seen (number_kept marks) ≡ true). rw (undecided, stale) w)
+      (λ (fresh : ltb seen (number_kept marks) ≡ false). ⊎_elim
       (λ (here : eqb rank (front_of marks) ≡ true).
       let at : rank ≡ front_of marks = eqb-true rank (front_of marks) here in
-      let most = ltb-false seen (kept_count marks) fresh in
-      let all : seen ≡ kept_count marks = omega arith in
+      let most = ltb-false seen (number_kept marks) fresh in
+      let all : seen ≡ number_kept marks = omega arith in
       let with_all : ¬ (incoherent (kept_of marks ++ rank ∷ [])) =
       subst (λ ranks. ¬ (incoherent (ranks ++ rank ∷ []))) (ap (λ n. take n (kept_of marks)) all ∙ take-length (kept_of marks)) coherent in
       let kept : AreWatched incoherent (with_kept marks rank) =
@@ -78,7 +78,7 @@ module _ (incoherent : List ℕ → Type 0) where
       (settle_to_rest incoherent (with_note marks rank seen) (note_watched incoherent marks w.watched rank seen inside undecided few coherent)))
       (cases_Bool (leb (front_of marks + 64) rank)))
       (cases_Bool (eqb rank (front_of marks))))
-      (cases_Bool (ltb seen (kept_count marks))))
+      (cases_Bool (ltb seen (number_kept marks))))
       (cases_Bool (is_decided (mark_at marks rank)))
 
   pub outcome_at_rest : (marks : List Mark) (event : Event) → IsAllowed incoherent marks event → AreAtRest incoherent marks

@@ -2,7 +2,7 @@
 use Rattle.std.proofs.Common.{◌≡◌, ℕ, ◌<◌, true, false, List, [], ◌∷◌, ◌++◌, length, set, arith}
 use Rattle.std.proofs.lemmas.Bool.{false_from_ne_true}
 use Rattle.accuse_core.specs.declared.mark.Mark.{Mark}
-use Rattle.accuse_core.specs.Marks.{is_kept, is_decided, is_yes_over, mark_at, kept_of, kept_count, front_of, with_kept, with_block, block_of, settled}
+use Rattle.accuse_core.specs.Marks.{is_kept, is_decided, is_yes_over, mark_at, kept_of, number_kept, front_of, with_kept, with_block, block_of, settled}
 use Rattle.accuse_core.specs.Sound.{AreKeptBeforeFront}
 use Rattle.accuse_core.specs.Inside.Tracking.{NoneKeptFrom}
 use Rattle.accuse_core.proofs.RankLaws.{ranks_set_failing}
@@ -28,7 +28,7 @@ pub set_adds_nothing : (marks : List Mark) (rank : ℕ) (mark : Mark) → is_dec
 set_adds_nothing marks rank mark undecided not_kept = ranks_set_failing is_kept 0 marks rank mark (undecided_is_not_kept (mark_at marks rank) undecided) not_kept
 
 pub waiting_grows : (marks : List Mark) → AreKeptBeforeFront marks
-    → is_yes_over (kept_count marks) (mark_at marks (front_of marks)) ≡ true → kept_of (settled marks) ≡ kept_of marks ++ front_of marks ∷ []
+    → is_yes_over (number_kept marks) (mark_at marks (front_of marks)) ≡ true → kept_of (settled marks) ≡ kept_of marks ++ front_of marks ∷ []
 waiting_grows marks before yes_over =
-    let k = waits (kept_count marks) (mark_at marks (front_of marks)) yes_over in
+    let k = waits (number_kept marks) (mark_at marks (front_of marks)) yes_over in
     rw yes_over (front_grows marks before (noted_inside marks (front_of marks) k.seen k.is))

@@ -9,7 +9,7 @@ use Rattle.accuse_core.specs.declared.mark.Mark.{Mark}
 use Rattle.accuse_core.specs.declared.mark.Mark.TheVariants.{Open, Yes, Removed}
 use Rattle.accuse_core.specs.declared.event.Event.{Event}
 use Rattle.accuse_core.specs.declared.journal.Entry.{Entry}
-use Rattle.accuse_core.specs.Marks.{is_kept, is_removed, is_yes_over, opening, mark_at, kept_of, kept_count, front_of}
+use Rattle.accuse_core.specs.Marks.{is_kept, is_removed, is_yes_over, opening, mark_at, kept_of, number_kept, front_of}
 use Rattle.accuse_core.specs.Events.{outcome, IsFitting, IsAllowed}
 use Rattle.accuse_core.specs.Journal.{after, AreAllowed, events_of, AreReplied, replayed, IsJournal}
 use Rattle.accuse_core.specs.Sound.{AreSound}
@@ -58,7 +58,7 @@ module _ (incoherent : List ℕ → Type 0) where
       noted = λ rank seen same. absurd (opening_has_no_yes ranks rank seen same);
       seen = λ rank seen same. absurd (opening_has_no_yes ranks rank seen same);
     };
-    rest = ap (is_yes_over (kept_count (opening ranks))) (open_at ranks (front_of (opening ranks)));
+    rest = ap (is_yes_over (number_kept (opening ranks))) (open_at ranks (front_of (opening ranks)));
   }
 
   pub allowed_at_rest : ¬ (incoherent []) → (ranks : ℕ) (events : List Event) → AreAllowed incoherent (opening ranks) events

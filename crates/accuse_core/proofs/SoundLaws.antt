@@ -7,7 +7,7 @@ use Rattle.std.proofs.lemmas.List.Elements.{Contains-append_left}
 use Rattle.conflict_logic.specs.Certificate.{IsRefuted}
 use Rattle.accuse_core.specs.declared.mark.Mark.{Mark}
 use Rattle.accuse_core.specs.declared.mark.Mark.TheVariants.{Open, Yes, Kept, Removed}
-use Rattle.accuse_core.specs.Marks.{is_kept, is_removed, is_decided, is_yes_over, mark_at, kept_of, kept_count, front_of, kept_unless_removed, with_kept, with_removed, with_note, with_block, block_of, settled}
+use Rattle.accuse_core.specs.Marks.{is_kept, is_removed, is_decided, is_yes_over, mark_at, kept_of, number_kept, front_of, kept_unless_removed, with_kept, with_removed, with_note, with_block, block_of, settled}
 use Rattle.accuse_core.specs.Inside.Watching.{IsNoted, AreWatched, AreAtRest}
 use Rattle.accuse_core.proofs.RankLaws.{ranks_set_failing}
 use Rattle.accuse_core.proofs.FrontLaws.{at_set, front_rises, front_passes, front_stays, none_kept_with, none_kept_past}
@@ -87,7 +87,7 @@ module _ (incoherent : List ℕ → Type 0) where
           noted = λ rank seen. at_set (λ mark. mark ≡ Yes seen → ¬ (incoherent (take seen (kept_of (with_kept marks front)) ++ rank ∷ []))) marks front Kept rank inside
               (λ same yes_mark. cc)
               (λ differs yes_mark. rw grown (with_more incoherent (kept_of marks) (front ∷ []) seen rank (w.seen rank seen yes_mark) (w.noted rank seen yes_mark)));
-          seen = λ rank seen. at_set (λ mark. mark ≡ Yes seen → seen ≤ kept_count (with_kept marks front)) marks front Kept rank inside
+          seen = λ rank seen. at_set (λ mark. mark ≡ Yes seen → seen ≤ number_kept (with_kept marks front)) marks front Kept rank inside
               (λ same yes_mark. cc)
               (λ differs yes_mark. let few = w.seen rank seen yes_mark in rw (grown, length-append) (omega arith));
         }
@@ -95,22 +95,22 @@ module _ (incoherent : List ℕ → Type 0) where
     -- the rank at the front is kept if it waits
     pub settle_watched : AreWatched incoherent (settled marks)
     settle_watched = ⊎_elim
-        (λ (yes_over : is_yes_over (kept_count marks) (mark_at marks (front_of marks)) ≡ true).
-        let k = waits (kept_count marks) (mark_at marks (front_of marks)) yes_over in
+        (λ (yes_over : is_yes_over (number_kept marks) (mark_at marks (front_of marks)) ≡ true).
+        let k = waits (number_kept marks) (mark_at marks (front_of marks)) yes_over in
         let noted = w.noted (front_of marks) k.seen k.is in
         rw yes_over (keep_watched (noted_inside marks (front_of marks) k.seen k.is)
         (subst (λ ranks. ¬ (incoherent (ranks ++ front_of marks ∷ []))) (ap (λ n. take n (kept_of marks)) k.all ∙ take-length (kept_of marks)) noted)))
-        (λ (not_over : is_yes_over (kept_count marks) (mark_at marks (front_of marks)) ≡ false). rw not_over w)
-        (cases_Bool (is_yes_over (kept_count marks) (mark_at marks (front_of marks))))
+        (λ (not_over : is_yes_over (number_kept marks) (mark_at marks (front_of marks)) ≡ false). rw not_over w)
+        (cases_Bool (is_yes_over (number_kept marks) (mark_at marks (front_of marks))))
 
     -- then no rank waits any more: all other marks are a yes over fewer ranks
     rest_after_keeping : front_of marks < length marks → (now : List Mark) → now ≡ with_kept marks (front_of marks)
-        → is_yes_over (kept_count now) (mark_at now (front_of now)) ≡ false
+        → is_yes_over (number_kept now) (mark_at now (front_of now)) ≡ false
     rest_after_keeping inside now is =
         let grown = kept_grows marks (front_of marks) inside w.ahead in
-        let more : kept_count now ≡ kept_count marks + 1 = rw (is, grown, length-append) refl in
-        fewer_dont_wait (kept_count now) (mark_at now (front_of now)) (λ seen yes_mark.
-        let few : seen ≤ kept_count marks = at_set (λ mark. mark ≡ Yes seen → seen ≤ kept_count marks) marks (front_of marks) Kept (front_of now) inside
+        let more : number_kept now ≡ number_kept marks + 1 = rw (is, grown, length-append) refl in
+        fewer_dont_wait (number_kept now) (mark_at now (front_of now)) (λ seen yes_mark.
+        let few : seen ≤ number_kept marks = at_set (λ mark. mark ≡ Yes seen → seen ≤ number_kept marks) marks (front_of marks) Kept (front_of now) inside
         (λ same kept. cc) (λ differs old. w.seen (front_of now) seen old) (subst (λ xs. mark_at xs (front_of now) ≡ Yes seen) is yes_mark) in
         omega arith)
 
@@ -118,13 +118,13 @@ module _ (incoherent : List ℕ → Type 0) where
     settle_to_rest = record {
       watched = settle_watched;
       rest = ⊎_elim
-          (λ (yes_over : is_yes_over (kept_count marks) (mark_at marks (front_of marks)) ≡ true).
-          let k = waits (kept_count marks) (mark_at marks (front_of marks)) yes_over in
+          (λ (yes_over : is_yes_over (number_kept marks) (mark_at marks (front_of marks)) ≡ true).
+          let k = waits (number_kept marks) (mark_at marks (front_of marks)) yes_over in
           rest_after_keeping (noted_inside marks (front_of marks) k.seen k.is) (settled marks) (rw yes_over refl))
-          (λ (not_over : is_yes_over (kept_count marks) (mark_at marks (front_of marks)) ≡ false).
+          (λ (not_over : is_yes_over (number_kept marks) (mark_at marks (front_of marks)) ≡ false).
           let same : settled marks ≡ marks = rw not_over refl in
-          subst (λ now. is_yes_over (kept_count now) (mark_at now (front_of now)) ≡ false) (sym same) not_over)
-          (cases_Bool (is_yes_over (kept_count marks) (mark_at marks (front_of marks))));
+          subst (λ now. is_yes_over (number_kept now) (mark_at now (front_of now)) ≡ false) (sym same) not_over)
+          (cases_Bool (is_yes_over (number_kept marks) (mark_at marks (front_of marks))));
     }
 
     -- a mark that isn't kept in the place of one that isn't decided
@@ -144,7 +144,7 @@ module _ (incoherent : List ℕ → Type 0) where
           noted = λ other seen. at_set (λ m. m ≡ Yes seen → ¬ (incoherent (take seen (kept_of (set marks rank mark)) ++ other ∷ []))) marks rank mark other inside
               (λ same yes_mark. rw same_kept (subst (λ r. ¬ (incoherent (take seen (kept_of marks) ++ r ∷ []))) (sym same) (yes_for seen yes_mark).coherent))
               (λ differs yes_mark. rw same_kept (w.noted other seen yes_mark));
-          seen = λ other seen. at_set (λ m. m ≡ Yes seen → seen ≤ kept_count (set marks rank mark)) marks rank mark other inside
+          seen = λ other seen. at_set (λ m. m ≡ Yes seen → seen ≤ number_kept (set marks rank mark)) marks rank mark other inside
               (λ same yes_mark. rw same_kept (yes_for seen yes_mark).few)
               (λ differs yes_mark. rw same_kept (w.seen other seen yes_mark));
         }
@@ -159,12 +159,12 @@ module _ (incoherent : List ℕ → Type 0) where
         })
         (λ other yes_mark. cc)
 
-    pub note_watched : (rank seen : ℕ) → rank < length marks → is_decided (mark_at marks rank) ≡ false → seen ≤ kept_count marks
+    pub note_watched : (rank seen : ℕ) → rank < length marks → is_decided (mark_at marks rank) ≡ false → seen ≤ number_kept marks
         → ¬ (incoherent (take seen (kept_of marks) ++ rank ∷ [])) → AreWatched incoherent (with_note marks rank seen)
     note_watched rank seen inside undecided few coherent = set_watched rank (Yes seen) inside undecided refl (front_stays marks rank (Yes seen) undecided refl)
         (λ gone. absurd (both_ways false refl gone))
         (λ other yes_mark. let same : seen ≡ other = cc in record {
-          few = subst (λ n. n ≤ kept_count marks) same few;
+          few = subst (λ n. n ≤ number_kept marks) same few;
           coherent = subst (λ n. ¬ (incoherent (take n (kept_of marks) ++ rank ∷ []))) same coherent;
         })
 
@@ -189,7 +189,7 @@ module _ (incoherent : List ℕ → Type 0) where
               (λ before yes_mark. rw grown (with_more incoherent (kept_of marks) more seen rank (w.seen rank seen yes_mark) (w.noted rank seen yes_mark)))
               (λ from below yes_mark. absurd (neither (mark_at marks rank) seen yes_mark))
               (λ past yes_mark. rw grown (with_more incoherent (kept_of marks) more seen rank (w.seen rank seen yes_mark) (w.noted rank seen yes_mark)));
-          seen = λ rank seen. at_block (λ mark. mark ≡ Yes seen → seen ≤ kept_count new) marks front count rank inside
+          seen = λ rank seen. at_block (λ mark. mark ≡ Yes seen → seen ≤ number_kept new) marks front count rank inside
               (λ before yes_mark. let few = w.seen rank seen yes_mark in rw (grown, length-append) (omega arith))
               (λ from below yes_mark. absurd (neither (mark_at marks rank) seen yes_mark))
               (λ past yes_mark. let few = w.seen rank seen yes_mark in rw (grown, length-append) (omega arith));

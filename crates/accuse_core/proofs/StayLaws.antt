@@ -4,7 +4,7 @@ use Rattle.std.proofs.lemmas.Bool.{cases_lt, cases_eq, cases_Bool, both_ways}
 use Rattle.accuse_core.specs.declared.mark.Mark.{Mark}
 use Rattle.accuse_core.specs.declared.mark.Mark.TheVariants.{Open, Yes, Kept, Removed}
 use Rattle.accuse_core.specs.declared.event.Event.{Event}
-use Rattle.accuse_core.specs.Marks.{is_decided, is_yes_over, mark_at, kept_count, front_of, kept_unless_removed, with_block, settled}
+use Rattle.accuse_core.specs.Marks.{is_decided, is_yes_over, mark_at, number_kept, front_of, kept_unless_removed, with_block, settled}
 use Rattle.accuse_core.specs.Events.{outcome, on_take, on_take_front, on_no, on_yes}
 use Rattle.accuse_core.proofs.BlockLaws.{block_before, block_within, block_past}
 use Rattle.accuse_core.proofs.MarkLaws.{open_past}
@@ -20,11 +20,11 @@ set_stays marks at mark rank undecided decided = ⊎_elim
 
 settled_stays : (marks : List Mark) (rank : ℕ) → is_decided (mark_at marks rank) ≡ true → mark_at (settled marks) rank ≡ mark_at marks rank
 settled_stays marks rank decided = ⊎_elim
-    (λ (yes_over : is_yes_over (kept_count marks) (mark_at marks (front_of marks)) ≡ true).
-    let k = waits (kept_count marks) (mark_at marks (front_of marks)) yes_over in
+    (λ (yes_over : is_yes_over (number_kept marks) (mark_at marks (front_of marks)) ≡ true).
+    let k = waits (number_kept marks) (mark_at marks (front_of marks)) yes_over in
     rw yes_over (set_stays marks (front_of marks) Kept rank (ap is_decided k.is) decided))
-    (λ (not_over : is_yes_over (kept_count marks) (mark_at marks (front_of marks)) ≡ false). rw not_over refl)
-    (cases_Bool (is_yes_over (kept_count marks) (mark_at marks (front_of marks))))
+    (λ (not_over : is_yes_over (number_kept marks) (mark_at marks (front_of marks)) ≡ false). rw not_over refl)
+    (cases_Bool (is_yes_over (number_kept marks) (mark_at marks (front_of marks))))
 
 -- a mark in the place of an undecided one, and then the front
 change_stays : (marks : List Mark) (at : ℕ) (mark : Mark) (rank : ℕ) → is_decided (mark_at marks at) ≡ false → is_decided (mark_at marks rank) ≡ true
@@ -58,15 +58,15 @@ yes_stays : (marks : List Mark) (at seen rank : ℕ) → is_decided (mark_at mar
 yes_stays marks at seen rank decided = ⊎_elim
     (λ (late : is_decided (mark_at marks at) ≡ true). rw late refl)
     (λ (undecided : is_decided (mark_at marks at) ≡ false). ⊎_elim
-    (λ (stale : ltb seen (kept_count marks) ≡ true). rw (undecided, stale) refl)
-    (λ (fresh : ltb seen (kept_count marks) ≡ false). ⊎_elim
+    (λ (stale : ltb seen (number_kept marks) ≡ true). rw (undecided, stale) refl)
+    (λ (fresh : ltb seen (number_kept marks) ≡ false). ⊎_elim
     (λ (here : eqb at (front_of marks) ≡ true). rw (undecided, fresh, here) (change_stays marks at Kept rank undecided decided))
     (λ (elsewhere : eqb at (front_of marks) ≡ false). ⊎_elim
     (λ (far : leb (front_of marks + 64) at ≡ true). rw (undecided, fresh, elsewhere, far) refl)
     (λ (near : leb (front_of marks + 64) at ≡ false). rw (undecided, fresh, elsewhere, near) (change_stays marks at (Yes seen) rank undecided decided))
     (cases_Bool (leb (front_of marks + 64) at)))
     (cases_Bool (eqb at (front_of marks))))
-    (cases_Bool (ltb seen (kept_count marks))))
+    (cases_Bool (ltb seen (number_kept marks))))
     (cases_Bool (is_decided (mark_at marks at)))
 
 take_stays : (marks : List Mark) (at : ℕ) → (on_take marks at).marks ≡ marks

@@ -5,50 +5,50 @@ use Rattle.accuse_core.specs.declared.event.Event.{Event}
 use Rattle.accuse_core.specs.declared.event.Event.TheVariants.{Take, TakeFront, No, Yes, Block}
 use Rattle.accuse_core.specs.declared.event.Reply.{Reply}
 use Rattle.accuse_core.specs.declared.event.Reply.TheVariants.{Over, Seen, Done, Front, Late, Marked, Stale, Kept, Far, Noted}
-use Rattle.accuse_core.specs.Marks.{is_decided, mark_at, kept_of, kept_count, front_of, with_kept, with_removed, with_note, with_block, block_of, settled}
+use Rattle.accuse_core.specs.Marks.{is_decided, mark_at, kept_of, number_kept, front_of, with_kept, with_removed, with_note, with_block, block_of, settled}
 
 -- the marks after an event, and the reply to it
-pub record Outcome : Type 0 where
+pub record Stepped : Type 0 where
   pub marks : List Mark
   pub reply : Reply
 
 -- only a reply
-abbrev pub replies : List Mark → Reply → Outcome
+abbrev pub replies : List Mark → Reply → Stepped
 replies marks reply = record { marks = marks; reply = reply }
 
 -- after a change the front is taken anew
-abbrev pub changes : List Mark → Reply → Outcome
+abbrev pub changes : List Mark → Reply → Stepped
 changes marks reply = record { marks = settled marks; reply = reply }
 
-abbrev pub on_take : List Mark → ℕ → Outcome
+abbrev pub on_take : List Mark → ℕ → Stepped
 on_take marks rank =
     if is_decided (mark_at marks rank) then replies marks Over
-    else replies marks (Seen (kept_count marks))
+    else replies marks (Seen (number_kept marks))
 
-abbrev pub on_take_front : List Mark → Outcome
+abbrev pub on_take_front : List Mark → Stepped
 on_take_front marks =
     if front_of marks == length marks then replies marks Done
-    else replies marks (Front (front_of marks) (kept_count marks))
+    else replies marks (Front (front_of marks) (number_kept marks))
 
-abbrev pub on_no : List Mark → ℕ → Outcome
+abbrev pub on_no : List Mark → ℕ → Stepped
 on_no marks rank =
     if is_decided (mark_at marks rank) then replies marks Late
     else changes (with_removed marks rank) Marked
 
 -- a yes over all kept ranks keeps the rank at the front; ahead of it, but less than 64 ranks ahead,
 -- it is noted
-abbrev pub on_yes : List Mark → ℕ → ℕ → Outcome
+abbrev pub on_yes : List Mark → ℕ → ℕ → Stepped
 on_yes marks rank seen =
     if is_decided (mark_at marks rank) then replies marks Late
-    else (if nat_lt seen (kept_count marks) then replies marks (Stale (kept_count marks))
+    else (if nat_lt seen (number_kept marks) then replies marks (Stale (number_kept marks))
     else (if rank == front_of marks then changes (with_kept marks rank) Kept
     else (if nat_le (front_of marks + 64) rank then replies marks Far
     else changes (with_note marks rank seen) Noted)))
 
-abbrev pub on_block : List Mark → ℕ → ℕ → Outcome
+abbrev pub on_block : List Mark → ℕ → ℕ → Stepped
 on_block marks rank count = changes (with_block marks rank count) Kept
 
-abbrev pub outcome : List Mark → Event → Outcome
+abbrev pub outcome : List Mark → Event → Stepped
 outcome marks (Take worker rank) = on_take marks rank
 outcome marks (TakeFront worker) = on_take_front marks
 outcome marks (No worker rank seen) = on_no marks rank
@@ -57,13 +57,13 @@ outcome marks (Block worker rank count seen) = on_block marks rank count
 
 -- a verdict on a rank fits if its rank is a rank and what it has seen is kept
 abbrev pub IsFittingVerdict : List Mark → ℕ → ℕ → Type 0
-IsFittingVerdict marks rank seen = (rank < length marks) × (seen ≤ kept_count marks)
+IsFittingVerdict marks rank seen = (rank < length marks) × (seen ≤ number_kept marks)
 
 -- a block fits if it begins at the front, has seen all kept ranks, is not empty, and ends within
 -- the ranks
 abbrev pub IsFittingBlock : List Mark → ℕ → ℕ → ℕ → Type 0
 IsFittingBlock marks rank count seen =
-    (rank ≡ front_of marks) × (seen ≡ kept_count marks)
+    (rank ≡ front_of marks) × (seen ≡ number_kept marks)
     × (1 ≤ count) × (rank + count ≤ length marks)
 
 abbrev pub IsFitting : List Mark → Event → Type 0

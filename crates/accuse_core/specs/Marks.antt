@@ -42,8 +42,8 @@ ranks_from passes rank (mark ∷ marks) =
 abbrev pub kept_of : List Mark → List ℕ
 kept_of marks = ranks_from is_kept 0 marks
 
-abbrev pub kept_count : List Mark → ℕ
-kept_count marks = length (kept_of marks)
+abbrev pub number_kept : List Mark → ℕ
+number_kept marks = length (kept_of marks)
 
 -- the least rank that is not decided, or the number of ranks
 abbrev pub front_of : List Mark → ℕ
@@ -89,5 +89,5 @@ is_yes_over count Removed = false
 -- the rank at the front is kept if its mark is a yes over all kept ranks
 abbrev pub settled : List Mark → List Mark
 settled marks =
-    if is_yes_over (kept_count marks) (mark_at marks (front_of marks))
+    if is_yes_over (number_kept marks) (mark_at marks (front_of marks))
     then with_kept marks (front_of marks) else marks

@@ -8,7 +8,7 @@ ghost use Rattle.conflict_logic.specs.Greedy.{family_of};
 ghost use Rattle.accuse_core.specs.declared.event.Event.{Event};
 ghost use Rattle.accuse_core.specs.declared.journal.Entry.{Entry};
 ghost use Rattle.accuse_core.specs.declared.mark.Mark.{Mark};
-ghost use Rattle.accuse_core.specs.Marks.{is_decided, is_yes_over, kept_unless_removed, with_kept, with_removed, with_note, with_block, block_of, settled, opening, mark_at, kept_of, kept_count, front_of};
+ghost use Rattle.accuse_core.specs.Marks.{is_decided, is_yes_over, kept_unless_removed, with_kept, with_removed, with_note, with_block, block_of, settled, opening, mark_at, kept_of, number_kept, front_of};
 ghost use Rattle.accuse_core.specs.Events.{outcome, IsAllowed};
 ghost use Rattle.accuse_core.specs.Journal.{after, AreAllowed, replayed, IsJournal};
 ghost use Rattle.accuse_core.specs.Sound.{AreKeptBeforeFront, AreSound};
@@ -67,7 +67,7 @@ pub fn no_rank_waits_at_the_front<F: Family>(family: &F)
     ensures { let incoherent = F.incoherent family.now in (ranks : ℕ) (events : List Event)
         → ¬ (incoherent []) → AreAllowed incoherent (opening ranks) events
         → let marks = after (opening ranks) events in
-        is_yes_over (kept_count marks) (mark_at marks (front_of marks)) ≡ false }
+        is_yes_over (number_kept marks) (mark_at marks (front_of marks)) ≡ false }
 {
     let _ = family;
 }
@@ -100,7 +100,7 @@ pub fn kept_ranks_only_grow()
     ensures noted { (marks : List Mark) (rank seen : ℕ) → is_decided (mark_at marks rank) ≡ false
         → kept_of (with_note marks rank seen) ≡ kept_of marks }
     ensures waiting { (marks : List Mark) → AreKeptBeforeFront marks
-        → is_yes_over (kept_count marks) (mark_at marks (front_of marks)) ≡ true
+        → is_yes_over (number_kept marks) (mark_at marks (front_of marks)) ≡ true
         → kept_of (settled marks) ≡ kept_of marks ++ front_of marks ∷ [] }
 {}
 

@@ -1,7 +1,7 @@
 //! The marks of all ranks, beside a list of the kept ones.
 
 ghost use Rattle.std.specs.Prelude.{◌≡◌, ◌<◌, ◌≤◌, ◌+◌, [], ◌∷◌, ◌++◌, true, false, length, slice_set, IfOk, vec_len, vec_capacity};
-ghost use Rattle.accuse_core.specs.Marks.{is_decided, is_removed, is_yes_over, kept_unless_removed, opening, mark_at, kept_of, kept_count, front_of, with_kept, with_removed, with_note, with_block, settled};
+ghost use Rattle.accuse_core.specs.Marks.{is_decided, is_removed, is_yes_over, kept_unless_removed, opening, mark_at, kept_of, number_kept, front_of, with_kept, with_removed, with_note, with_block, settled};
 ghost use Rattle.accuse_core.specs.Inside.Tracking.{AreTracked};
 
 use crate::mark::Mark;
@@ -140,7 +140,7 @@ impl Marks {
     }
 
     pub fn kept_count(&self) -> u32
-        ensures { result ≡ kept_count self.now }
+        ensures { result ≡ number_kept self.now }
     {
         self.kept.len() as u32
     }
@@ -154,7 +154,7 @@ impl Marks {
 
     // Whether the mark of a rank is a yes over just the kept ranks.
     fn waits(&self, rank: u32) -> bool
-        ensures waits { result ≡ is_yes_over (kept_count self.now) (mark_at self.now rank) }
+        ensures waits { result ≡ is_yes_over (number_kept self.now) (mark_at self.now rank) }
         ensures inside { result ≡ true → rank < length self.now }
     {
         if rank >= self.len() {

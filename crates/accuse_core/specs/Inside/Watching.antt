@@ -3,7 +3,7 @@ use Rattle.std.specs.Prelude.{◌≡◌, ℕ, ◌≤◌, true, false, List, [], 
 use Rattle.conflict_logic.specs.Certificate.{IsRefuted}
 use Rattle.accuse_core.specs.declared.mark.Mark.{Mark}
 use Rattle.accuse_core.specs.declared.mark.Mark.TheVariants.{Yes}
-use Rattle.accuse_core.specs.Marks.{is_removed, is_yes_over, mark_at, kept_of, kept_count, front_of}
+use Rattle.accuse_core.specs.Marks.{is_removed, is_yes_over, mark_at, kept_of, number_kept, front_of}
 use Rattle.accuse_core.specs.Inside.Tracking.{NoneKeptFrom}
 
 -- this number of the first kept ranks are coherent with a rank
@@ -20,9 +20,9 @@ pub record AreWatched (incoherent : List ℕ → Type 0) (marks : List Mark) : T
   pub coherent : ¬ (incoherent (kept_of marks))
   pub noted : (rank seen : ℕ) → mark_at marks rank ≡ Yes seen
       → ¬ (incoherent (take seen (kept_of marks) ++ rank ∷ []))
-  pub seen : (rank seen : ℕ) → mark_at marks rank ≡ Yes seen → seen ≤ kept_count marks
+  pub seen : (rank seen : ℕ) → mark_at marks rank ≡ Yes seen → seen ≤ number_kept marks
 
 -- and the rank at the front doesn't wait to be kept
 pub record AreAtRest (incoherent : List ℕ → Type 0) (marks : List Mark) : Type 0 where
   pub watched : AreWatched incoherent marks
-  pub rest : is_yes_over (kept_count marks) (mark_at marks (front_of marks)) ≡ false
+  pub rest : is_yes_over (number_kept marks) (mark_at marks (front_of marks)) ≡ false
