@@ -1,9 +1,8 @@
 #!/usr/bin/env python3
 """Reads made documents of one to twenty megabytes, shaped as OWL tools write them: full IRIs and prefixed names,
-annotations, comments, language tags and nested expressions, with some axioms outside the fragment that are left out.
-Prints for each the least seconds of three readings, megabytes a second, nanoseconds a byte, and the peak memory of the
-process so far over the size of the text. The cost of a byte is to stay about the same as texts grow; a text has to be
-made before it is read, so the peak has the text twice.
+annotations, comments, language tags and nested expressions. Prints for each the least seconds of three readings,
+megabytes a second, nanoseconds a byte, and the peak memory of the process so far over the size of the text. The cost of
+a byte is to stay about the same as texts grow. The text itself is part of the peak.
 """
 
 from driver import run_driver
@@ -26,7 +25,7 @@ fn made(alloc: Global, size: usize) -> Result<Vec<u8>> {
         }
         let above = i / 3;
         let part = i % 50;
-        let lines = format!(in alloc; "Declaration(Class(<http://example.org/ontology#C{i}>))\\n# Class: <http://example.org/ontology#C{i}> (made class {i})\\n\\nAnnotationAssertion(rdfs:label <http://example.org/ontology#C{i}> \\"made class {i}\\"@en)\\nAnnotationAssertion(rdfs:comment :C{i} \\"a class that was \\\\\\"made\\\\\\" for a bench, with a text of some length\\"^^xsd:string)\\nSubClassOf(<http://example.org/ontology#C{i}> <http://example.org/ontology#C{above}>)\\nSubClassOf(Annotation(rdfs:comment \\"nested\\"@en) :C{i} ObjectSomeValuesFrom(<http://example.org/ontology#part{part}> ObjectIntersectionOf(:C{above} ObjectSomeValuesFrom(:of{part} :C{i}))))\\nDisjointClasses(:C{i} <http://example.org/ontology#D{i}>)\\nSubClassOf(:C{i} ObjectUnionOf(:C{above} :D{i}))\\n\\n")?;
+        let lines = format!(in alloc; "Declaration(Class(<http://example.org/ontology#C{i}>))\\n# Class: <http://example.org/ontology#C{i}> (made class {i})\\n\\nAnnotationAssertion(rdfs:label <http://example.org/ontology#C{i}> \\"made class {i}\\"@en)\\nAnnotationAssertion(rdfs:comment :C{i} \\"a class that was \\\\\\"made\\\\\\" for a bench, with a text of some length\\"^^xsd:string)\\nSubClassOf(<http://example.org/ontology#C{i}> <http://example.org/ontology#C{above}>)\\nSubClassOf(Annotation(rdfs:comment \\"nested\\"@en) :C{i} ObjectSomeValuesFrom(<http://example.org/ontology#part{part}> ObjectIntersectionOf(:C{above} ObjectSomeValuesFrom(:of{part} :C{i}))))\\nDisjointClasses(:C{i} <http://example.org/ontology#D{i}>)\\n\\n")?;
         text.extend_from_slice(lines.as_str().as_bytes())?;
     }
     text.push(b')')?;
@@ -61,14 +60,12 @@ fn measure(rt: &HostRuntime, size: usize) -> Result<()> {
     let limits = Limits::standard();
     let mut least = f64::MAX;
     let mut axioms = 0;
-    let mut omitted = 0;
     for _ in 0..3 {
         let mut held = names(alloc, &limits);
         let start = Instant::now(rt)?;
-        match read_document(alloc, text.as_slice(), Mode::ElPart, &limits, &mut held) {
+        match read_document(alloc, text.as_slice(), Mode::Strict, &limits, &mut held) {
             Ok(document) => {
                 axioms = document.axioms.len();
-                omitted = document.omitted.len();
             }
             Err(fault) => println!(rt; "fault: {fault}")?,
         }
@@ -78,7 +75,7 @@ fn measure(rt: &HostRuntime, size: usize) -> Result<()> {
     let speed = bytes as f64 / least / 1e6;
     let cost = least * 1e9 / bytes as f64;
     let memory = peak(rt)? as f64 * 1024.0 / bytes as f64;
-    println!(rt; "{bytes} bytes, {axioms} axioms, {omitted} left out: {least:.4} s, {speed:.1} MB/s, {cost:.1} ns a byte, peak {memory:.1} times the text")?;
+    println!(rt; "{bytes} bytes, {axioms} axioms: {least:.4} s, {speed:.1} MB/s, {cost:.1} ns a byte, peak {memory:.1} times the text")?;
     Ok(())
 }
 
