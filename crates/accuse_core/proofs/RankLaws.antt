@@ -17,8 +17,8 @@ pub nothing_in_nil : (rank : ℕ) → Contains [] rank → ⊥
 nothing_in_nil rank held = let inside = held.1 in omega arith
 
 -- what a list contains is its first number or is in the rest
-pub cases_of_cons : (first : ℕ) (ranks : List ℕ) (rank : ℕ) → Contains (first ∷ ranks) rank → (first ≡ rank) ⊎ Contains ranks rank
-cases_of_cons first ranks rank held = ⊎_elim
+pub cases_of_cons : (first rank : ℕ) (ranks : List ℕ) → Contains (first ∷ ranks) rank → (first ≡ rank) ⊎ Contains ranks rank
+cases_of_cons first rank ranks held = ⊎_elim
     (λ (alone : Contains (first ∷ []) rank). ⊎_elim (λ none. absurd (nothing_in_nil rank none)) (λ same. inl same) (Contains-push_cases [] first rank alone))
     (λ (rest : Contains ranks rank). inr rest)
     (Contains-append_cases (first ∷ []) ranks rank held)
@@ -98,7 +98,7 @@ module _ (passes : Mark → Bool) where
       (λ (holds : passes x ≡ true). ⊎_elim
       (λ (same : first ≡ rank). record { place = 0; is = omega arith; inside = omega arith; holds = holds })
       (λ later. passes_later first x xs rank (out_of_ranks (suc first) xs rank later))
-      (cases_of_cons first (ranks_from passes (suc first) xs) rank (rw (holds) at held)))
+      (cases_of_cons first rank (ranks_from passes (suc first) xs) (rw (holds) at held)))
       (λ (fails : passes x ≡ false). passes_later first x xs rank (out_of_ranks (suc first) xs rank (rw (fails) at held)))
       (cases_Bool (passes x))
 

@@ -53,7 +53,8 @@ pub fn rows_over(
     order: &[u32],
 ) -> Result<NodeAxiomLists, AllocError>
     requires indexes { All (λ index. index < length rows.now) order.now }
-    ensures { All (All IsShortRow) rows.now → IfOk result (λ over. over ≡ rows_over rows.now order.now) }
+    ensures { All (All IsShortRow) rows.now
+        → IfOk result (λ over. over ≡ rows_over rows.now order.now) }
 {
     let mut over = Vec::with_capacity(alloc, order.len())?;
     for index in order {

@@ -25,7 +25,7 @@ use Rattle.ofn_axiom.specs.Steps.{◌>>=◌}
 use Rattle.ofn_axiom.specs.Numbers.{with_mention, with_mentions, direct_mentions, is_full_for}
 use Rattle.ofn_axiom.specs.Taking.{State, taken, added}
 use Rattle.ofn_axiom.specs.Given.{Given, given, prefix_parts, prefix_group, after_iri, after_iris, directs}
-use Rattle.ofn_axiom.specs.Documents.{is_other, declared, declared_with, is_prefix, is_ontology, to_ontology, ended, document_of, empty, placed, IsDocFault, no_text, no_token, unopened, unclosed, too_deep, terms, doc_ran_out, is_profile}
+use Rattle.ofn_axiom.specs.Documents.{declared_over, declared, declared_with, is_prefix, is_ontology, to_ontology, ended, document_of, empty, placed, IsDocFault, no_text, no_token, unopened, unclosed, too_deep, terms, doc_ran_out, is_profile}
 use Rattle.ofn_axiom.proofs.GivenLaws.{atom_gives, bare_gives, group_gives, ontology_gives}
 
 -- the fault is not that something is outside the profile
@@ -124,9 +124,14 @@ ontology_step text prefixes state (Item-F.Group (Some word) is start end) =
 ontology_plain : (text : List ℕ) (prefixes : Prefixes) (state : State) (i : Item) → OntologyIsPlain text prefixes state i
 ontology_plain text prefixes state = ind-Item (OntologyIsPlain text prefixes state) (λ x y is. ontology_step text prefixes state x)
 
+-- a prefix that may be held already
+declared_over_plain : (at : ℕ) (prefixes : Prefixes) (both : List ℕ × List ℕ) (held : Option (List ℕ)) → IsPlain (declared_over at prefixes both held)
+declared_over_plain at prefixes both None = tt
+declared_over_plain at prefixes both (Some held) = plain_test (bytes_eq held both.1) _ _ tt tt
+
 -- a declaration of a prefix
 declared_plain : (text : List ℕ) (prefixes : Prefixes) (i : Item) → IsPlain (declared_with prefixes (given text prefixes i))
-declared_plain text prefixes i = plain_then (given text prefixes i).prefix (declared (given text prefixes i).at prefixes) (prefix_plain text prefixes i) (λ both. plain_test (is_other (iri_of prefixes both.0) both.1) _ _ tt tt)
+declared_plain text prefixes i = plain_then (given text prefixes i).prefix (declared (given text prefixes i).at prefixes) (prefix_plain text prefixes i) (λ both. declared_over_plain (given text prefixes i).at prefixes both (iri_of prefixes both.0))
 
 -- what stands before the ontology
 to_ontology_plain : (text : List ℕ) (prefixes : Prefixes) (items : List Item) → IsPlain (to_ontology text prefixes items)

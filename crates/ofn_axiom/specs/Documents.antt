@@ -25,16 +25,16 @@ use Rattle.ofn_axiom.specs.Steps.{◌>>=◌}
 use Rattle.ofn_axiom.specs.Given.{Given, given, prefix_group}
 use Rattle.ofn_axiom.specs.Taking.{State, place_at}
 
--- the prefix has another IRI than this one
-abbrev pub is_other : Option (List ℕ) → List ℕ → Bool
-is_other None iri = false
-is_other (Some held) iri = not (bytes_eq held iri)
+-- the prefixes with one more, which may be held already: the same again changes nothing, and another
+-- IRI clashes
+abbrev pub declared_over : ℕ → Prefixes → List ℕ × List ℕ → Option (List ℕ) → Result Prefixes OffsetFault
+declared_over at prefixes both None = Ok (with_prefix prefixes both.0 both.1)
+declared_over at prefixes both (Some held) =
+    if bytes_eq held both.1 then Ok (with_prefix prefixes both.0 both.1) else
+    Err (fault.PrefixClash at)
 
--- the prefixes with one more; the same again changes nothing
 abbrev pub declared : ℕ → Prefixes → List ℕ × List ℕ → Result Prefixes OffsetFault
-declared at prefixes both =
-    if is_other (iri_of prefixes both.0) both.1 then Err (fault.PrefixClash at) else
-    Ok (with_prefix prefixes both.0 both.1)
+declared at prefixes both = declared_over at prefixes both (iri_of prefixes both.0)
 
 -- the prefixes with that of the items of a prefix group
 abbrev pub declared_by : ℕ → Prefixes → List Given → Result Prefixes OffsetFault

@@ -45,7 +45,8 @@ fn sub_property(
     at: usize,
     items: &[Item],
 ) -> Result<IriAxiom, Stop>
-    ensures { Gives (λ x. x) result (sub_property at (map (given text.now prefixes.now) items.now)) }
+    ensures { Gives (λ x. x) result
+        (sub_property at (map (given text.now prefixes.now) items.now)) }
 {
     match items {
         [lower, upper] => {

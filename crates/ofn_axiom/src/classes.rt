@@ -95,7 +95,8 @@ fn properties(
     prefixes: &PrefixMap,
     items: &[Item],
 ) -> Result<Texts, Stop>
-    ensures { Gives (λ x. x) result (properties_onto [] (map (given text.now prefixes.now) items.now)) }
+    ensures { Gives (λ x. x) result
+        (properties_onto [] (map (given text.now prefixes.now) items.now)) }
 {
     let mut done = Texts::new(alloc);
     for item in items {
@@ -145,7 +146,8 @@ pub fn one_property(
     at: usize,
     items: &[Item],
 ) -> Result<Text, Stop>
-    ensures { Gives (λ x. x) result (one_property at (map (given text.now prefixes.now) items.now)) }
+    ensures { Gives (λ x. x) result
+        (one_property at (map (given text.now prefixes.now) items.now)) }
 {
     match items {
         [property] => {
@@ -288,7 +290,8 @@ pub fn some_classes(
     at: usize,
     items: &[Item],
 ) -> Result<IriExprs, Stop>
-    ensures { Gives (λ x. x) result (some_classes at (map (given text.now prefixes.now) items.now)) }
+    ensures { Gives (λ x. x) result
+        (some_classes at (map (given text.now prefixes.now) items.now)) }
 {
     if items.is_empty() || !all_fit(text, prefixes, items) {
         return Err(Stop::Fault(OffsetFault::Shape { at }));
@@ -303,7 +306,8 @@ fn classes(
     prefixes: &PrefixMap,
     items: &[Item],
 ) -> Result<IriExprs, Stop>
-    ensures { Gives (λ x. x) result (classes_onto [] (map (given text.now prefixes.now) items.now)) }
+    ensures { Gives (λ x. x) result
+        (classes_onto [] (map (given text.now prefixes.now) items.now)) }
 {
     let mut done = IriExprs::new(alloc);
     for item in items {

@@ -102,7 +102,8 @@ fn hold(table: &mut NameTable, name: &Text) -> Result<(), NameFault>
 
 fn hold_class(names: &mut Names, name: &Text) -> Result<(), Stop>
     ensures ok { OnOk result (with_mention (mention.Class name.now) names.old ≡ Ok names.new) }
-    ensures err { IfErr result (λ stop. Fails stop (with_mention (mention.Class name.now) names.old)) }
+    ensures err { IfErr result (λ stop.
+        Fails stop (with_mention (mention.Class name.now) names.old)) }
     ensures grows { IsNamesBefore names.old names.new }
 {
     match hold(&mut names.classes, name) {

@@ -23,7 +23,7 @@ text_left_out bytes other = by (is_utf8 bytes) refl
     by false e = ap (λ (b : Bool). cond b bytes []) e
 
 -- a place past the end is that of no element
-pub missing_colon : (p : ℕ → Bool) (xs : List ℕ) → position_or_len p xs ≡ length xs → list_any p xs ≡ false
+pub missing_colon : {X : Type 0} → (p : X → Bool) (xs : List X) → position_or_len p xs ≡ length xs → list_any p xs ≡ false
 missing_colon p [] end = refl
 missing_colon p (x ∷ xs) end = by (p x) refl (missing_colon p xs)
   where

@@ -23,7 +23,8 @@ pub fn axioms_of_row(
     classes: &NameTable,
     roles: &NameTable,
 ) -> Result<Axioms, AllocError>
-    ensures { IfOk result (λ axioms. axioms ≡ row_axioms classes.now.names roles.now.names row.now) }
+    ensures { IfOk result (λ axioms.
+        axioms ≡ row_axioms classes.now.names roles.now.names row.now) }
 {
     if row.modified {
         return Ok(Axioms::new(alloc));
@@ -112,7 +113,8 @@ fn class_axioms(
     subject: ClassName,
     object: ClassName,
 ) -> Result<Axioms, AllocError>
-    ensures { IfOk result (λ axioms. axioms ≡ class_axioms relation (expr_of subject) (expr_of object)) }
+    ensures { IfOk result (λ axioms.
+        axioms ≡ class_axioms relation (expr_of subject) (expr_of object)) }
 {
     let Some(relation) = relation else {
         return Ok(Axioms::new(alloc));

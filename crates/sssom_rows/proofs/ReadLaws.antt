@@ -24,11 +24,11 @@ or_map : (b : Bool) {P Q : Type 0} → (P → Q) → MatchBool b ⊤ P → Match
 or_map true f h = h
 or_map false f h = f h
 
--- no text is longer without a byte order mark
-pub unmarked_is_no_longer : (text : List ℕ) → length (without_mark text) ≤ length text
-unmarked_is_no_longer text = elim (cases_Bool (bytes_eq (take 3 text) byte_order_mark)) [
-  | inl mark ↦ rw mark (omega (arith, length-drop 3 text))
-  | inr other ↦ rw other (omega arith)
+-- a text that is within a bound is so without a byte order mark
+pub unmarked_within : (text : List ℕ) (most : ℕ) → length text ≤ most → length (without_mark text) ≤ most
+unmarked_within text most within = elim (cases_Bool (bytes_eq (take 3 text) byte_order_mark)) [
+  | inl mark ↦ rw mark (omega (arith, length-drop 3 text, within))
+  | inr other ↦ rw other within
 ]
 
 -- the parts of a table whose header is read
@@ -122,7 +122,7 @@ rows_are_few most bytes table is =
     let same = rows_match is.prefixes table.columns is.records table.rows is.rows in
     let few = tabbed_are_few is.parts.rest (table.columns ∷ is.records) is.parts.records_are in
     let whole = ap length is.parts.whole ∙ length-append table.head is.parts.rest in
-    omega (arith, same, few, whole, unmarked_is_no_longer bytes)
+    omega (arith, same, few, whole, unmarked_within bytes (length bytes) (omega arith))
 
 pub few_are_read : (most : ℕ) (bytes : List ℕ) (answer : Result Table TableFault) → IsTableRead most bytes answer
     → IfOk answer (λ table. length table.rows < length bytes)

@@ -50,6 +50,7 @@ pub fn columns_are_told_apart()
     ensures no_field { field_under (codes "c") (codes "a" ∷ []) (codes "1" ∷ []) ≡ [] }
     ensures missing { first_missing (codes "predicate_id" ∷ codes "subject_id" ∷ [])
         ≡ Some Object }
-    ensures twice { first_twice (codes "confidence" ∷ codes "x" ∷ codes "x" ∷ codes "confidence" ∷ [])
+    ensures twice { first_twice
+        (codes "confidence" ∷ codes "x" ∷ codes "x" ∷ codes "confidence" ∷ [])
         ≡ Some Confidence }
 {}

@@ -32,7 +32,8 @@ fn id_at(
     column: Column,
 ) -> Result<Option<Option<Text>>, AllocError>
     requires { are_texts fields.now ≡ true }
-    ensures { IfOk result (λ read. read ≡ id_in prefixes.now (field_of columns.now fields.now column)) }
+    ensures { IfOk result (λ read.
+        read ≡ id_in prefixes.now (field_of columns.now fields.now column)) }
 {
     id_in(alloc, prefixes, columns.field(fields, column))
 }

@@ -1,12 +1,12 @@
 use Rattle.std.proofs.Common.{◌∙◌, ap, take, length, arith}
 use Rattle.sssom_rows.proofs.RecordLaws.{tabbed_are_few}
-use Rattle.sssom_rows.proofs.ReadLaws.{unmarked_is_no_longer, parts_are, table_is_read, few_are_read}
+use Rattle.sssom_rows.proofs.ReadLaws.{unmarked_within, parts_are, table_is_read, few_are_read}
 use Rattle.sssom_rows.proofs.table.read_table.Goals as goal
 
 pub table_of-requires : goal.table_of-requires
 table_of-requires c =
     let few = tabbed_are_few c.split_at.result.1.now c.in-Ok-records_in.records.items c.in-Ok-records_in.ensures in
-    omega (arith, few, c.split_at.ensures.back_len, ap length c.without_mark-text.ensures, unmarked_is_no_longer c.args.bytes.now, c.requires)
+    omega (arith, few, c.split_at.ensures.back_len, ap length c.without_mark-text.ensures, unmarked_within c.args.bytes.now (length c.args.bytes.now) (omega arith), c.requires)
 
 pub returns : goal.returns
 returns c =
