@@ -6,6 +6,8 @@ mod build;
 mod number;
 mod roles;
 mod store;
+#[cfg(test)]
+mod tests;
 mod types;
 
 pub use build::build_store;
