@@ -24,6 +24,7 @@ longer_tree trees tree = by (list_any (same_tree tree) trees)
     by true = omega arith
     by false = omega (arith, length-append trees (tree ∷ []))
 
+-- nor do more of them
 longer_trees : (more trees : List Tree) → length trees ≤ length (with_trees trees more)
 longer_trees [] trees = omega arith
 longer_trees (tree ∷ more) trees = omega (arith, longer_tree trees tree, longer_trees more (with_tree trees tree))
@@ -35,6 +36,7 @@ classes_fit classes left right nodes most same few fits =
     let trees = trees_of classes left right in
     omega (arith, ap length same, length-map trees (node_in trees), longer_trees (compounds_in left) (names_of classes), longer_trees (compounds_in right) first, length-map-range_with_len name 0 classes)
 
+-- a name of a row has a short node
 short_name : (classes roles : ℕ) → classes + 2 < 2 ^ 32 → (expr : Expr) → IsTreeOver classes roles (tree_of expr) → name_node expr < 2 ^ 32
 short_name classes roles fits E.Top names = omega arith
 short_name classes roles fits E.Bottom names = omega arith
@@ -42,6 +44,7 @@ short_name classes roles fits (E.Name class) names = omega arith
 short_name classes roles fits (E.And' _ operands) names = omega arith
 short_name classes roles fits (E.Exists' role _ fillers) names = omega arith
 
+-- so do the names of an axiom
 short_row : (classes roles : ℕ) → classes + 2 < 2 ^ 32 → (axiom' : Axiom) → IsOver classes roles axiom' → IsShortRow axiom'
 short_row classes roles fits (A.SubClass low high) is =
     let P : Expr → Type 0 = λ e. IsTreeOver classes roles (tree_of e) in (
@@ -50,5 +53,6 @@ short_row classes roles fits (A.SubClass low high) is =
     )
 short_row classes roles fits _ is = tt
 
+-- and those of all rows
 pub rows_short : (classes roles : ℕ) (rows : List (List Axiom)) → classes + 2 < 2 ^ 32 → All (AreOver classes roles) rows → All (All IsShortRow) rows
 rows_short classes roles rows fits are k row within j default below = short_row classes roles fits _ ((are k row within).each j default below)

@@ -27,6 +27,7 @@ grows_tree trees tree = by (list_any (same_tree tree) trees)
     by true = ([], sym (append-nil trees))
     by false = (tree ∷ [], refl)
 
+-- and so do several
 grows_trees : (added trees : List Tree) → (more : List Tree) × (with_trees trees added ≡ trees ++ more)
 grows_trees [] trees = ([], sym (append-nil trees))
 grows_trees (tree ∷ added) trees =
@@ -34,29 +35,34 @@ grows_trees (tree ∷ added) trees =
     let rest = grows_trees added (with_tree trees tree) in
     (one.0 ++ rest.0, rest.1 ∙ ap (λ ts. ts ++ rest.0) one.1 ∙ append_assoc trees one.0 rest.0)
 
+-- what a list has at a place stays there when more follow
 front_kept : (xs ys : List Tree) (n : ℕ) (x : Tree) → slice_get xs n ≡ Some x → slice_get (xs ++ ys) n ≡ Some x
 front_kept [] ys n x at = absurd (none-some x at)
 front_kept (a ∷ xs) ys zero x at = at
 front_kept (a ∷ xs) ys (suc n) x at = front_kept xs ys n x at
 
+-- class names stand in the order of their numbers
 name_at : (a n k : ℕ) → k < n → slice_get (map name (range_with_len a n)) k ≡ Some (name (a + k))
 name_at a zero k within = absurd (omega arith)
 name_at a (suc n) zero within = let e : a ≡ a + 0 = omega arith in ap (λ m. Some (name m)) e
 name_at a (suc n) (suc k) within = let e : (a + 1) + k ≡ a + suc k = omega arith in name_at (a + 1) n k (omega arith) ∙ ap (λ m. Some (name m)) e
 
 module _ (classes roles : ℕ) (left right : List Axiom) (i : Interp) (m : Reading) (is : IsInterp classes roles i) (reads : IsReadingOf (nodes_over (trees_of classes left right)) roles i m) where
+  -- the trees of the store begin with the names
   front : (more : List Tree) × (trees_of classes left right ≡ names_of classes ++ more)
   front =
       let one = grows_trees (compounds_in left) (names_of classes) in
       let other = grows_trees (compounds_in right) (with_trees (names_of classes) (compounds_in left)) in
       (one.0 ++ other.0, other.1 ∙ ap (λ ts. ts ++ other.0) one.1 ∙ append_assoc (names_of classes) one.0 other.0)
 
+  -- so the node of a name is at its place
   node_is : (n : ℕ) (tree : Tree) → slice_get (names_of classes) n ≡ Some tree → IsNode (nodes_over (trees_of classes left right)) n (node_in (trees_of classes left right) tree)
   node_is n tree at =
       let trees = trees_of classes left right in
       let there : slice_get trees n ≡ Some tree = ap (λ ts. slice_get ts n) front.1 ∙ front_kept (names_of classes) front.0 n tree at in
       slice_get-map (node_in trees) trees n ∙ ap (option_map (node_in trees)) there
 
+  -- a class name is at its number and two more
   class_at : (k : ℕ) → k < classes → slice_get (names_of classes) (k + 2) ≡ Some (name k)
   class_at k within =
       let two : k + 2 ≡ suc (suc k) = omega arith in
@@ -71,6 +77,7 @@ module _ (classes roles : ℕ) (left right : List Axiom) (i : Interp) (m : Readi
   name_in (E.And' _ operands) named over x h = absurd named
   name_in (E.Exists' role _ fillers) named over x h = absurd named
 
+  -- and the other way round
   name_out : (e : Expr) → IsName e → IsTreeOver classes roles (tree_of e) → (x : ℕ) → IsMember i x e → IsIn m (name_node e) x
   name_out E.Top named over x h = reads.reading.top 0 x (node_is 0 thing refl) (subst (λ n. x < n) (sym reads.size) h)
   name_out E.Bottom named over x h = absurd h
@@ -78,6 +85,7 @@ module _ (classes roles : ℕ) (left right : List Axiom) (i : Interp) (m : Readi
   name_out (E.And' _ operands) named over x h = absurd named
   name_out (E.Exists' role _ fillers) named over x h = absurd named
 
+  -- an axiom of a row that holds holds over nodes
   row_in : (axiom' : Axiom) → IsRowAxiom axiom' → IsOver classes roles axiom' → Holds i axiom' → HoldsIn m (row_over axiom')
   row_in (A.SubClass low high) row over h =
       let P : Expr → Type 0 = λ e. IsTreeOver classes roles (tree_of e) in
@@ -91,6 +99,7 @@ module _ (classes roles : ℕ) (left right : List Axiom) (i : Interp) (m : Readi
   row_in (A.SubRole (r ∷ s ∷ chain) role) row over h = absurd (omega arith)
   row_in _ row over h = absurd row
 
+  -- and the other way round
   row_out : (axiom' : Axiom) → IsRowAxiom axiom' → IsOver classes roles axiom' → HoldsIn m (row_over axiom') → Holds i axiom'
   row_out (A.SubClass low high) row over h =
       let P : Expr → Type 0 = λ e. IsTreeOver classes roles (tree_of e) in
@@ -104,6 +113,7 @@ module _ (classes roles : ℕ) (left right : List Axiom) (i : Interp) (m : Readi
   row_out (A.SubRole (r ∷ s ∷ chain) role) row over h = absurd (omega arith)
   row_out _ row over h = absurd row
 
+  -- so do all axioms of a row
   rows_in : (axioms : List Axiom) → All IsRowAxiom axioms → All (IsOver classes roles) axioms → All (Holds i) axioms → All (HoldsIn m) (map row_over axioms)
   rows_in [] rows over h = All-nil (HoldsIn m)
   rows_in (axiom' ∷ axioms) rows over h =
@@ -111,6 +121,7 @@ module _ (classes roles : ℕ) (left right : List Axiom) (i : Interp) (m : Readi
       (row_in axiom' (All-head IsRowAxiom axiom' axioms rows) (All-head (IsOver classes roles) axiom' axioms over) (All-head (Holds i) axiom' axioms h))
       (rows_in axioms (All-tail IsRowAxiom axiom' axioms rows) (All-tail (IsOver classes roles) axiom' axioms over) (All-tail (Holds i) axiom' axioms h))
 
+  -- and the other way round
   rows_out : (axioms : List Axiom) → All IsRowAxiom axioms → All (IsOver classes roles) axioms → All (HoldsIn m) (map row_over axioms) → All (Holds i) axioms
   rows_out [] rows over h = All-nil (Holds i)
   rows_out (axiom' ∷ axioms) rows over h =

@@ -12,10 +12,12 @@ use Rattle.concept_store.specs.Faults.{IsStoreFault}
 use Rattle.concept_store.specs.Inside.Numbering.{numbered, numbered_each, numbered_axiom, numbered_axioms, in_32_bits, AreNamesShort, AreAllShort, AreAxiomsShort}
 use Rattle.concept_store.proofs.NumberLaws.{longer, fault_longer}
 
+-- numbering expressions makes the nodes no fewer
 pub longer_each : (exprs : List Expr) (nodes : List Node) → length nodes ≤ length (numbered_each exprs nodes).1
 longer_each [] nodes = omega arith
 longer_each (expr ∷ exprs) nodes = omega (arith, longer (tree_of expr) nodes, longer_each exprs (numbered (tree_of expr) nodes).1)
 
+-- nor does numbering an axiom
 pub longer_axiom : (axiom' : Axiom) (first : ℕ) (nodes : List Node) → length nodes ≤ length (numbered_axiom first axiom' nodes).1
 longer_axiom (A.SubClass low high) first nodes = omega (arith, longer (tree_of low) nodes, longer (tree_of high) (numbered (tree_of low) nodes).1)
 longer_axiom (A.Equivalent exprs) first nodes = longer_each exprs nodes
@@ -26,6 +28,7 @@ longer_axiom (A.Transitive role) first nodes = omega arith
 longer_axiom (A.Reflexive role) first nodes = omega arith
 longer_axiom (A.Domain role expr) first nodes = longer (tree_of expr) nodes
 
+-- nor does numbering axioms
 pub longer_axioms : (axioms : List Axiom) (first : ℕ) (nodes : List Node) → length nodes ≤ length (numbered_axioms first axioms nodes).1
 longer_axioms [] first nodes = omega arith
 longer_axioms (axiom' ∷ axioms) first nodes =
@@ -37,6 +40,7 @@ short_expr [] i expr short within at = absurd (omega arith)
 short_expr (first ∷ exprs) zero expr short within at = subst (λ e. AreNamesShort (tree_of e)) (sym at) short.0
 short_expr (first ∷ exprs) (suc i) expr short within at = short_expr exprs i expr short.1 (omega arith) at
 
+-- and the names of an axiom
 short_axiom : (axioms : List Axiom) (i : ℕ) (axiom' : Axiom) → AreAxiomsShort axioms → i < length axioms → axiom' ≡ get_or axioms i axiom' → AreAllShort (expressions axiom')
 short_axiom [] i axiom' short within at = absurd (omega arith)
 short_axiom (first ∷ axioms) zero axiom' short within at = subst (λ a. AreAllShort (expressions a)) (sym at) short.0

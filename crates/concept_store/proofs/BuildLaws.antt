@@ -59,11 +59,13 @@ no_parts [] n tree trees at = absurd (none-some tree at)
 no_parts (k ∷ ks) zero tree trees at = subst (HasParts trees) (same_Some (name k) tree at) tt
 no_parts (k ∷ ks) (suc n) tree trees at = no_parts ks n tree trees at
 
+-- so no name has a part that is missing
 names_have : (classes n : ℕ) (tree : Tree) → slice_get (names_of classes) n ≡ Some tree → HasParts (names_of classes) tree
 names_have classes zero tree at = subst (HasParts (names_of classes)) (same_Some thing tree at) tt
 names_have classes (suc zero) tree at = subst (HasParts (names_of classes)) (same_Some nothing tree at) tt
 names_have classes (suc (suc n)) tree at = no_parts (range_with_len 0 classes) n tree (names_of classes) at
 
+-- the names alone have the parts of each
 names_forest : (classes : ℕ) → IsForest classes (names_of classes)
 names_forest classes = record {
   more = [];
@@ -71,6 +73,7 @@ names_forest classes = record {
   parts = λ tree has. names_have classes (place_of tree (names_of classes)) tree (at_place tree (names_of classes) has);
 }
 
+-- how many names there are
 length-names : (classes : ℕ) → length (names_of classes) ≡ classes + 2
 length-names classes = omega (arith, length-map-range_with_len name 0 classes)
 
@@ -82,11 +85,13 @@ short_tree classes roles most few fits (name k) names = omega arith
 short_tree classes roles most few fits (both one other) names = (short_tree classes roles most few fits one names.0, short_tree classes roles most few fits other names.1)
 short_tree classes roles most few fits (some r filler) names = short_tree classes roles most few fits filler names.1
 
+-- so are those of expressions
 short_all : (classes roles most : ℕ) → classes + 2 ≤ most → most < 2 ^ 32 → (exprs : List Expr) → All (λ e. IsTreeOver classes roles (tree_of e)) exprs → AreAllShort exprs
 short_all classes roles most few fits [] names = tt
 short_all classes roles most few fits (e ∷ es) names =
     (short_tree classes roles most few fits (tree_of e) (All-head (λ f. IsTreeOver classes roles (tree_of f)) e es names), short_all classes roles most few fits es (All-tail (λ f. IsTreeOver classes roles (tree_of f)) e es names))
 
+-- and those of axioms
 pub short_axioms : (classes roles most : ℕ) → classes + 2 ≤ most → most < 2 ^ 32 → (axioms : List Axiom) → All (IsOver classes roles) axioms → AreAxiomsShort axioms
 short_axioms classes roles most few fits [] are = tt
 short_axioms classes roles most few fits (axiom' ∷ axioms) are =
@@ -99,6 +104,7 @@ length-parts side number [] = refl
 length-parts side number (axiom' ∷ axioms) =
     omega (arith, length-append (parts_of side number axiom') (parts_in side (number + 1) axioms), length-map-range_with_len (Part side number) 2 (part_count axiom'), length-parts side (number + 1) axioms)
 
+-- how many roles there are
 length-roles : (roles : ℕ) (left right : List Axiom) → length (roles_of roles left right) ≡ roles + parts_within left + parts_within right
 length-roles roles left right =
     let names = map Named (range_with_len 0 roles) in
@@ -111,13 +117,16 @@ fault_weaker f g fault.Nodes h = f h
 fault_weaker f g fault.Roles h = g h
 fault_weaker f g fault.OutOfMemory h = h
 
+-- there is a node for each tree
 length-nodes : (trees : List Tree) → length (nodes_over trees) ≡ length trees
 length-nodes trees = length-map trees (node_in trees)
 
 module _ (classes roles : ℕ) (left right : List Axiom) (over_left : AreOver classes roles left) (over_right : AreOver classes roles right) where
+  -- what numbering LEFT does
   left_are : AreNumbered classes (names_of classes) (with_trees (names_of classes) (compounds_in left)) roles left (numbered_axioms roles left (nodes_over (names_of classes)))
   left_are = axioms_are classes roles roles left (names_of classes) (names_forest classes) over_left.each
 
+  -- and RIGHT after it
   pub right_are : (next : ℕ) → AreNumbered classes (with_trees (names_of classes) (compounds_in left)) (trees_of classes left right) next right (numbered_axioms next right (nodes_over (with_trees (names_of classes) (compounds_in left))))
   right_are next = axioms_are classes roles next right (with_trees (names_of classes) (compounds_in left)) left_are.forest over_right.each
 
@@ -134,6 +143,7 @@ module _ (classes roles : ℕ) (left right : List Axiom) (over_left : AreOver cl
   pub nodes_after_left : (start nodes : List Node) → start ≡ nodes_over (names_of classes) → nodes ≡ (numbered_axioms roles left start).1 → nodes ≡ nodes_over (with_trees (names_of classes) (compounds_in left))
   nodes_after_left start nodes begun after = after ∙ ap (λ ns. (numbered_axioms roles left ns).1) begun ∙ left_are.nodes_are
 
+  -- the nodes after RIGHT
   pub nodes_after_right : (next : ℕ) (start nodes : List Node) → start ≡ nodes_over (with_trees (names_of classes) (compounds_in left)) → nodes ≡ (numbered_axioms next right start).1 → nodes ≡ nodes_over (trees_of classes left right)
   nodes_after_right next start nodes begun after = after ∙ ap (λ ns. (numbered_axioms next right ns).1) begun ∙ (right_are next).nodes_are
 
@@ -143,6 +153,7 @@ module _ (classes roles : ℕ) (left right : List Axiom) (over_left : AreOver cl
       let kept = ap (λ ts. all_over ts roles left) (right_are 0).grows ∙ all_over_kept (with_trees (names_of classes) (compounds_in left)) (right_are 0).more roles left left_are.has in
       after ∙ ap (λ ns. (numbered_axioms roles left ns).0) begun ∙ left_are.over_is small ∙ sym kept
 
+  -- those of RIGHT, whose parts come after the parts of LEFT
   pub right_after : (next : ℕ) (start : List Node) (over : List NodeAxiom) → start ≡ nodes_over (with_trees (names_of classes) (compounds_in left)) → over ≡ (numbered_axioms next right start).0 →
       next ≡ in_32_bits (roles + parts_within left) → roles + parts_within left + parts_within right < 2 ^ 32 → over ≡ all_over (trees_of classes left right) (roles + parts_within left) right
   right_after next start over begun after next_is small =
@@ -161,6 +172,7 @@ module _ (classes roles : ℕ) (left right : List Axiom) (over_left : AreOver cl
       let same = means_the_same classes roles i m trees is (right_are 0).forest (subst (λ ns. IsReadingOf ns roles i m) nodes_are reads) roles left over_left.each has in
       (λ h. subst (All (HoldsIn m)) (sym over_is) (same.0 h), λ h. same.1 (subst (All (HoldsIn m)) over_is h))
 
+  -- and RIGHT
   pub right_means : (nodes : List Node) (over : List NodeAxiom) → nodes ≡ nodes_over (trees_of classes left right) → over ≡ all_over (trees_of classes left right) (roles + parts_within left) right → MeansTheSameIn classes roles nodes right over
   right_means nodes over nodes_are over_is i m is reads =
       let trees = trees_of classes left right in
@@ -171,15 +183,18 @@ module _ (classes roles : ℕ) (left right : List Axiom) (over_left : AreOver cl
   pub many_names : (most : ℕ) → most < classes + 2 → most < length (trees_of classes left right)
   many_names most many = omega (arith, length-names classes, more_trees.0, more_trees.1)
 
+  -- too many nodes of LEFT are too many
   pub many_left : (most : ℕ) (start : List Node) → start ≡ nodes_over (names_of classes) → most < length (numbered_axioms roles left start).1 → most < length (trees_of classes left right)
   many_left most start begun many =
       let same = ap length (nodes_after_left start (numbered_axioms roles left start).1 begun refl) in
       omega (arith, same, length-nodes (with_trees (names_of classes) (compounds_in left)), more_trees.1)
 
+  -- too many nodes of both are too many
   pub many_right : (most next : ℕ) (start : List Node) → start ≡ nodes_over (with_trees (names_of classes) (compounds_in left)) → most < length (numbered_axioms next right start).1 → most < length (trees_of classes left right)
   many_right most next start begun many =
       let same = ap length (nodes_after_right next start (numbered_axioms next right start).1 begun refl) in
       omega (arith, same, length-nodes (trees_of classes left right))
 
+  -- nodes that are not too many come from no more trees
   pub few_trees : (most : ℕ) (nodes : List Node) → nodes ≡ nodes_over (trees_of classes left right) → length nodes ≤ most → length (trees_of classes left right) ≤ most
   few_trees most nodes nodes_are few = omega (arith, ap length nodes_are, length-nodes (trees_of classes left right))

@@ -37,6 +37,7 @@ has_at trees n tree at = omega (arith, place_first tree trees n at, slice_get_wi
 pub has_kept : (trees more : List Tree) (tree : Tree) → Has trees tree → Has (trees ++ more) tree
 has_kept trees more tree has = omega (arith, place_kept tree trees more has, length-append trees more)
 
+-- so do the parts of a tree
 parts_kept : (trees more : List Tree) (tree : Tree) → HasParts trees tree → HasParts (trees ++ more) tree
 parts_kept trees more (both one other) has = (has_kept trees more one has.0, has_kept trees more other has.1)
 parts_kept trees more (some role filler) has = has_kept trees more filler has
@@ -66,6 +67,7 @@ same_shape trees _ _ has_one has_other = refl
 
 -- the test of a node along the nodes, and that of its tree along the trees
 module _ (p : Node → Bool) (q : Tree → Bool) (f : Tree → Node) where
+  -- the first place that passes is the same
   pub position_along : (trees : List Tree) → ((n : ℕ) (tree : Tree) → slice_get trees n ≡ Some tree → p (f tree) ≡ q tree) → position_or_len p (map f trees) ≡ position_or_len q trees
   position_along [] same = refl
   position_along (first ∷ trees) same =
@@ -73,6 +75,7 @@ module _ (p : Node → Bool) (q : Tree → Bool) (f : Tree → Node) where
       let rest = position_along trees (λ n tree at. same (suc n) tree at) in
       λ i. cond (not (here i)) (1 + rest i) 0
 
+  -- and so is whether any passes
   pub any_along : (trees : List Tree) → ((n : ℕ) (tree : Tree) → slice_get trees n ≡ Some tree → p (f tree) ≡ q tree) → list_any p (map f trees) ≡ list_any q trees
   any_along [] same = refl
   any_along (first ∷ trees) same =
@@ -91,6 +94,7 @@ node_kept trees more thing has = refl
 node_kept trees more nothing has = refl
 node_kept trees more (name class) has = refl
 
+-- so do the nodes of several trees
 nodes_kept : (trees more some_trees : List Tree) → ((n : ℕ) (tree : Tree) → slice_get some_trees n ≡ Some tree → HasParts trees tree) → map (node_in (trees ++ more)) some_trees ≡ map (node_in trees) some_trees
 nodes_kept trees more [] has = refl
 nodes_kept trees more (first ∷ rest) has =
@@ -98,6 +102,7 @@ nodes_kept trees more (first ∷ rest) has =
     let others = nodes_kept trees more rest (λ n tree at. has (suc n) tree at) in
     λ i. here i ∷ others i
 
+-- the values of two lists, one after the other
 map-append : {X Y : Type 0} (f : X → Y) (xs ys : List X) → map f (xs ++ ys) ≡ map f xs ++ map f ys
 map-append f [] ys = refl
 map-append f (x ∷ xs) ys = ap (λ zs. f x ∷ zs) (map-append f xs ys)
@@ -112,20 +117,25 @@ pub record IsAdded (classes : ℕ) (old new : List Tree) (tree : Tree) (found : 
 
 -- a compound tree whose parts are there is added as its node is
 module _ (classes : ℕ) (trees : List Tree) (forest : IsForest classes trees) (tree : Tree) (parts : HasParts trees tree) where
+  -- the node passes the test where the tree does
   tests : (n : ℕ) (other : Tree) → slice_get trees n ≡ Some other → same_node (node_in trees tree) (node_in trees other) ≡ same_tree tree other
   tests n other at = same_shape trees tree other parts (forest.parts other (has_at trees n other at))
 
+  -- its number is the place of the tree
   number_is : position_or_len (same_node (node_in trees tree)) (nodes_over trees) ≡ place_of tree trees
   number_is = position_along (same_node (node_in trees tree)) (same_tree tree) (node_in trees) trees tests
 
+  -- it is there where the tree is
   there_is : list_any (same_node (node_in trees tree)) (nodes_over trees) ≡ list_any (same_tree tree) trees
   there_is = any_along (same_node (node_in trees tree)) (same_tree tree) (node_in trees) trees tests
 
+  -- the nodes with the tree
   new_nodes : nodes_over (trees ++ tree ∷ []) ≡ nodes_over trees ++ node_in trees tree ∷ []
   new_nodes =
       map-append (node_in (trees ++ tree ∷ [])) trees (tree ∷ [])
       ∙ (λ i. nodes_kept trees (tree ∷ []) trees (λ n other at. forest.parts other (has_at trees n other at)) i ++ node_kept trees (tree ∷ []) tree parts i ∷ [])
 
+  -- the trees with a new one have the parts of each
   new_forest : list_any (same_tree tree) trees ≡ false → IsForest classes (trees ++ tree ∷ [])
   new_forest lost = record {
     more = forest.more ++ tree ∷ [];
@@ -137,6 +147,7 @@ module _ (classes : ℕ) (trees : List Tree) (forest : IsForest classes trees) (
       parts_new other true found has = parts_kept trees (tree ∷ []) other (forest.parts other (found_place other trees found))
       parts_new other false not_found has = subst (HasParts (trees ++ tree ∷ [])) (sym (only_added other tree trees not_found has)) (parts_kept trees (tree ∷ []) tree parts)
 
+  -- what adding does, whether the tree is new or not
   step_by : (b : Bool) → list_any (same_tree tree) trees ≡ b →
       IsAdded classes trees (if b then trees else trees ++ tree ∷ []) tree (place_of tree trees, if b then nodes_over trees else nodes_over trees ++ node_in trees tree ∷ [])
   step_by true found = record { same = refl; forest = forest; more = []; grows = sym (append-nil trees); has = found_place tree trees found }

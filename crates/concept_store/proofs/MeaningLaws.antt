@@ -32,6 +32,7 @@ name_within classes properties i is k x h = ⊎_elim
     none : (xs : List ℕ) → xs ≡ [] → Contains xs x → ⊥
     none xs e h = let l = h.1 in let z = ap length e in omega arith
 
+-- what a property relates are elements
 role_within : (classes properties : ℕ) (i : Interp) → IsInterp classes properties i → (r x y : ℕ) → AreRelated i r x y → x < i.size
 role_within classes properties i is r x y h = ⊎_elim
     (λ l. (All-contains (λ p. (p.0 < i.size) × (p.1 < i.size)) (L.pairs_of i r) (x, y) (All-get_or (All (λ p. (p.0 < i.size) × (p.1 < i.size))) i.roles r [] l is.pairs_below) h).0)
@@ -59,10 +60,12 @@ module _ (classes properties : ℕ) (i : Interp) (is : IsInterp classes properti
     to_tree (E.And' _ es) x h = to_intersection es x h.0 h.1
     to_tree (E.Exists' r _ (more_of-Expr e _)) x (y, p, h) = (y, p, to_tree e y h)
 
+    -- so is one of an intersection
     to_intersection : {n : _} (es : Row_of-Expr n) (x : ℕ) → x < i.size → IsInEach i x es → InTree i x (intersection_of es)
     to_intersection end_of-Expr x l h = l
     to_intersection (more_of-Expr e es) x l (h, hs) = to_folded es (tree_of e) x (to_tree e x h) hs
 
+    -- and one of its first operands that is one of the rest
     to_folded : {n : _} (es : Row_of-Expr n) (tree : Tree) (x : ℕ) → InTree i x tree → IsInEach i x es → InTree i x (folded tree es)
     to_folded end_of-Expr tree x h hs = h
     to_folded (more_of-Expr e es) tree x h (g, hs) = to_folded es (both tree (tree_of e)) x (h, to_tree e x g) hs
@@ -76,11 +79,13 @@ module _ (classes properties : ℕ) (i : Interp) (is : IsInterp classes properti
     from_tree (E.And' _ es) x h = from_intersection es x h
     from_tree (E.Exists' r _ (more_of-Expr e _)) x (y, p, h) = (y, p, from_tree e y h)
 
+    -- of an intersection
     from_intersection : {n : _} (es : Row_of-Expr n) (x : ℕ) → InTree i x (intersection_of es) → (x < i.size) × IsInEach i x es
     from_intersection end_of-Expr x h = (h, tt)
     from_intersection (more_of-Expr e es) x h =
         let g = from_folded es (tree_of e) x h in (in_tree_within (tree_of e) x g.0, (from_tree e x g.0, g.1))
 
+    -- and of its first operands with the rest
     from_folded : {n : _} (es : Row_of-Expr n) (tree : Tree) (x : ℕ) → InTree i x (folded tree es) → InTree i x tree × IsInEach i x es
     from_folded end_of-Expr tree x h = (h, tt)
     from_folded (more_of-Expr e es) tree x h =
@@ -90,10 +95,12 @@ module _ (classes properties : ℕ) (i : Interp) (is : IsInterp classes properti
 abbrev pub IsKnown : ℕ → ℕ → List Tree → Expr → Type 0
 IsKnown classes properties trees e = Has trees (tree_of e) × IsTreeOver classes properties (tree_of e)
 
+-- and of several
 abbrev pub AllKnown : ℕ → ℕ → List Tree → List Expr → Type 0
 AllKnown classes properties trees [] = ⊤
 AllKnown classes properties trees (e ∷ es) = IsKnown classes properties trees e × AllKnown classes properties trees es
 
+-- expressions that are there over these names are known
 all_known : (classes properties : ℕ) (trees : List Tree) (es : List Expr) → HasEach trees es → All (λ e. IsTreeOver classes properties (tree_of e)) es → AllKnown classes properties trees es
 all_known classes properties trees [] has names = tt
 all_known classes properties trees (e ∷ es) has names =
@@ -118,6 +125,7 @@ module _ (classes properties : ℕ) (i : Interp) (m : Reading) (trees : List Tre
       let g = (reads.reading.some (place_of (some r filler) trees) r (place_of filler trees) x (node_at (some r filler) has)).0 h in
       (g.0, (reads.roles r x g.0 names.0).0 g.1, to_members filler part names.1 g.0 g.2)
 
+  -- and its members are elements of its node
   from_members : (tree : Tree) → Has trees tree → IsTreeOver classes properties tree → (x : ℕ) → InTree i x tree → IsIn m (place_of tree trees) x
   from_members thing has names x h = reads.reading.top (place_of thing trees) x (node_at thing has) (subst (λ n. x < n) (sym reads.size) h)
   from_members nothing has names x h = absurd h
@@ -135,12 +143,15 @@ module _ (classes properties : ℕ) (i : Interp) (m : Reading) (trees : List Tre
   expr_in : (e : Expr) → IsKnown classes properties trees e → (x : ℕ) → IsIn m (number_in trees e) x → IsMember i x e
   expr_in e known x h = from_tree classes properties i is e x (to_members (tree_of e) known.0 known.1 x h)
 
+  -- and its members are elements of its node
   expr_out : (e : Expr) → IsKnown classes properties trees e → (x : ℕ) → IsMember i x e → IsIn m (number_in trees e) x
   expr_out e known x h = from_members (tree_of e) known.0 known.1 x (to_tree classes properties i is e x h)
 
+  -- an expression within another has its node within
   within_in : (e f : Expr) → IsKnown classes properties trees e → IsKnown classes properties trees f → L.IsWithin i e f → IsWithin m (number_in trees e) (number_in trees f)
   within_in e f ke kf h x k = expr_out f kf x (h x (expr_in e ke x k))
 
+  -- and the other way round
   within_out : (e f : Expr) → IsKnown classes properties trees e → IsKnown classes properties trees f → IsWithin m (number_in trees e) (number_in trees f) → L.IsWithin i e f
   within_out e f ke kf h x k = expr_in f kf x (h x (expr_out e ke x k))
 
@@ -150,11 +161,13 @@ module _ (classes properties : ℕ) (i : Interp) (m : Reading) (trees : List Tre
   each_in P Q step (e ∷ es) known h =
       All-cons Q (number_in trees e) (map (number_in trees) es) (step e known.0 (All-head P e es h)) (each_in P Q step es known.1 (All-tail P e es h))
 
+  -- from the numbers to the expressions
   each_out : (P : Expr → Type 0) (Q : ℕ → Type 0) → ((e : Expr) → IsKnown classes properties trees e → Q (number_in trees e) → P e) → (es : List Expr) → AllKnown classes properties trees es → All Q (map (number_in trees) es) → All P es
   each_out P Q step [] known h = All-nil P
   each_out P Q step (e ∷ es) known h =
       All-cons P e es (step e known.0 (All-head Q (number_in trees e) (map (number_in trees) es) h)) (each_out P Q step es known.1 (All-tail Q (number_in trees e) (map (number_in trees) es) h))
 
+  -- expressions that are apart have nodes that are
   apart_in : (es : List Expr) → AllKnown classes properties trees es → L.AreApart i es → AreApart m (map (number_in trees) es)
   apart_in [] known h = tt
   apart_in (e ∷ es) known h = (
@@ -163,6 +176,7 @@ module _ (classes properties : ℕ) (i : Interp) (m : Reading) (trees : List Tre
     apart_in es known.1 h.1,
   )
 
+  -- and the other way round
   apart_out : (es : List Expr) → AllKnown classes properties trees es → AreApart m (map (number_in trees) es) → L.AreApart i es
   apart_out [] known h = tt
   apart_out (e ∷ es) known h = (
@@ -171,11 +185,13 @@ module _ (classes properties : ℕ) (i : Interp) (m : Reading) (trees : List Tre
     apart_out es known.1 h.1,
   )
 
+  -- a chain leads where its roles do
   chain_in : (chain : List ℕ) → All (λ r. r < properties) chain → (x y : ℕ) → AreChained i chain x y → Reaches m chain x y
   chain_in [] named x y h = h
   chain_in (r ∷ chain) named x y (z, p, h) =
       (z, (reads.roles r x z (All-head (λ s. s < properties) r chain named)).1 p, chain_in chain (All-tail (λ s. s < properties) r chain named) z y h)
 
+  -- and the other way round
   chain_out : (chain : List ℕ) → All (λ r. r < properties) chain → (x y : ℕ) → Reaches m chain x y → AreChained i chain x y
   chain_out [] named x y h = h
   chain_out (r ∷ chain) named x y (z, p, h) =
@@ -233,6 +249,7 @@ module _ (classes properties : ℕ) (i : Interp) (m : Reading) (trees : List Tre
       (holds_in first axiom' (All-head (IsOver classes properties) axiom' axioms are) has.0 (All-head (L.Holds i) axiom' axioms h))
       (all_in (first + part_count axiom') axioms (All-tail (IsOver classes properties) axiom' axioms are) has.1 (All-tail (L.Holds i) axiom' axioms h))
 
+  -- from the axioms over nodes to those that were given
   all_out : (first : ℕ) (axioms : List Axiom) → All (IsOver classes properties) axioms → HasAxioms trees axioms → All (HoldsIn m) (all_over trees first axioms) → All (L.Holds i) axioms
   all_out first [] are has h = All-nil (L.Holds i)
   all_out first (axiom' ∷ axioms) are has h =
@@ -240,5 +257,6 @@ module _ (classes properties : ℕ) (i : Interp) (m : Reading) (trees : List Tre
       (holds_out first axiom' (All-head (IsOver classes properties) axiom' axioms are) has.0 (All-head (HoldsIn m) (over trees first axiom') (all_over trees (first + part_count axiom') axioms) h))
       (all_out (first + part_count axiom') axioms (All-tail (IsOver classes properties) axiom' axioms are) has.1 (All-tail (HoldsIn m) (over trees first axiom') (all_over trees (first + part_count axiom') axioms) h))
 
+  -- so both say the same
   pub means_the_same : (first : ℕ) (axioms : List Axiom) → All (IsOver classes properties) axioms → HasAxioms trees axioms → All (L.Holds i) axioms ↔ All (HoldsIn m) (all_over trees first axioms)
   means_the_same first axioms are has = (all_in first axioms are has, all_out first axioms are has)

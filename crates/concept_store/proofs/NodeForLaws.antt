@@ -23,6 +23,7 @@ none_fold nodes [] = refl
 none_fold nodes (operand ∷ operands) = none_fold nodes operands
 
 module _ (nodes : List Node) (expr first : Expr) (operands rest : List Expr) (same : expr ≡ E.And operands) (parts : operands ≡ first ∷ rest) where
+  -- an intersection is looked up from its first operand along the rest
   node_whole : node_for nodes (tree_of expr) ≡ fold (node_both nodes) (node_for nodes (tree_of first)) rest
   node_whole = ap (node_for nodes) (whole_some expr first operands rest same parts) ∙ sym (nodes_fold nodes rest (tree_of first))
 
@@ -38,6 +39,7 @@ module _ (nodes : List Node) (expr first : Expr) (operands rest : List Expr) (sa
         let split = ap (fold (node_both nodes) (Some start)) (sym (take-append-drop (i + 1) rest)) ∙ fold-append (node_both nodes) (Some start) (take (i + 1) rest) (drop (i + 1) rest) in
         sym (node_whole ∙ ap (λ w. fold (node_both nodes) w rest) (sym begun) ∙ split ∙ ap (λ w. fold (node_both nodes) w (drop (i + 1) rest)) (sym here) ∙ none_fold nodes (drop (i + 1) rest))
 
+    -- the node that the walk ends with
     pub found_all : length rest ≤ i → Some whole ≡ node_for nodes (tree_of expr)
     found_all past = sym (node_whole ∙ ap (λ w. fold (node_both nodes) w rest) (sym begun) ∙ ap (fold (node_both nodes) (Some start)) (sym (take_all i rest past)) ∙ sym done)
 

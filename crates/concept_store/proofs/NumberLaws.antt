@@ -25,6 +25,7 @@ pub tree_of-none : tree_of (E.And []) ≡ thing
 unfolding Rattle.el_logic.specs.declared.types.Expr.TheBlock.hidden-the_row-Expr-0 denote.Hole.Carrier.hidden
 tree_of-none = refl
 
+-- along a list of operands
 folded_is : (operands : List Expr) (tree : Tree) → rest_of (E.And operands) tree ≡ folded_list tree operands
 unfolding Rattle.el_logic.specs.declared.types.Expr.TheBlock.hidden-the_row-Expr-0 denote.Hole.Carrier.hidden
 folded_is [] tree = refl
@@ -35,6 +36,7 @@ pub tree_of-And : (operand : Expr) (operands : List Expr) → tree_of (E.And (op
 unfolding Rattle.el_logic.specs.declared.types.Expr.TheBlock.hidden-the_row-Expr-0 denote.Hole.Carrier.hidden
 tree_of-And operand operands = folded_is operands (tree_of operand)
 
+-- the tree of a restriction
 pub tree_of-Exists : (role : ℕ) (filler : Expr) → tree_of (E.Exists role filler) ≡ some role (tree_of filler)
 unfolding Rattle.el_logic.specs.declared.types.Expr.TheBlock.hidden-the_row-Expr-1 denote.Hole.Carrier.hidden
 tree_of-Exists role filler = refl
@@ -96,6 +98,7 @@ pub short_first : (operands : List Expr) (tree : Tree) → AreNamesShort (folded
 short_first [] tree short = short
 short_first (operand ∷ operands) tree short = (short_first operands (both tree (tree_of operand)) short).0
 
+-- and those of a later operand
 pub short_at : (operands : List Expr) (tree : Tree) (i : ℕ) (operand : Expr) → AreNamesShort (folded_list tree operands) → i < length operands → operand ≡ get_or operands i operand → AreNamesShort (tree_of operand)
 short_at [] tree i operand short within at = absurd (omega arith)
 short_at (first ∷ operands) tree zero operand short within at = subst (λ e. AreNamesShort (tree_of e)) (sym at) (short_first operands (both tree (tree_of first)) short).1
@@ -106,9 +109,11 @@ pub whole_none : (expr : Expr) (operands : List Expr) → expr ≡ E.And operand
 whole_none expr [] same none = ap tree_of same ∙ tree_of-none
 whole_none expr (operand ∷ operands) same none = absurd (omega arith)
 
+-- of some operands
 pub whole_some : (expr first : Expr) (operands rest : List Expr) → expr ≡ E.And operands → operands ≡ first ∷ rest → tree_of expr ≡ folded_list (tree_of first) rest
 whole_some expr first operands rest same parts = ap tree_of (same ∙ ap E.And parts) ∙ tree_of-And first rest
 
+-- the tree of a restriction, in the words of the code
 pub whole_exists : (expr filler : Expr) (role : ℕ) → expr ≡ E.Exists role filler → tree_of expr ≡ some role (tree_of filler)
 whole_exists expr filler role same = ap tree_of same ∙ tree_of-Exists role filler
 
@@ -133,6 +138,7 @@ module _ (expr first operand : Expr) (operands rest : List Expr) (nodes : List N
   all_is : numbered (tree_of expr) nodes ≡ fold numbered_both start rest
   all_is = whole_is expr first operands rest nodes same parts ∙ ap (λ w. fold numbered_both w rest) (sym begun)
 
+  -- the nodes up to an operand are no more than all
   up_to_here : length (numbered_both whole operand).1 ≤ length (numbered (tree_of expr) nodes).1
   up_to_here =
       let next = next_operand rest i operand start whole within at done in

@@ -29,6 +29,7 @@ place_of_name a (suc n) (suc k) within =
 
 -- where owl:Thing, owl:Nothing and the class names stand
 module _ (classes : ℕ) (trees : List Tree) (forest : IsForest classes trees) where
+  -- a name is where it is among the names
   along : (tree : Tree) (n : ℕ) → place_of tree (names_of classes) ≡ n → n < length (names_of classes) → (place_of tree trees ≡ n) × Has trees tree
   along tree n here within =
       let has : Has (names_of classes) tree = omega arith in
@@ -37,12 +38,15 @@ module _ (classes : ℕ) (trees : List Tree) (forest : IsForest classes trees) w
       let long = ap length forest.begins in
       (same, omega (arith, same, long, length-append (names_of classes) forest.more))
 
+  -- owl:Thing is first
   pub thing_is : (place_of thing trees ≡ 0) × Has trees thing
   thing_is = along thing 0 refl (omega arith)
 
+  -- owl:Nothing is second
   pub nothing_is : (place_of nothing trees ≡ 1) × Has trees nothing
   nothing_is = along nothing 1 refl (omega arith)
 
+  -- a class name is at its number and two more
   pub name_is : (k : ℕ) → k < classes → (place_of (name k) trees ≡ k + 2) × Has trees (name k)
   name_is k within =
       let zero_more : (0 + k) ≡ k = omega arith in

@@ -23,10 +23,12 @@ abbrev pub HasEach : List Tree → List Expr → Type 0
 HasEach trees [] = ⊤
 HasEach trees (expr ∷ exprs) = Has trees (tree_of expr) × HasEach trees exprs
 
+-- and stay so when trees are added
 pub has_each_kept : (trees more : List Tree) (exprs : List Expr) → HasEach trees exprs → HasEach (trees ++ more) exprs
 has_each_kept trees more [] has = tt
 has_each_kept trees more (expr ∷ exprs) has = (has_kept trees more (tree_of expr) has.0, has_each_kept trees more exprs has.1)
 
+-- numbers stay when trees are added
 pub numbers_kept : (trees more : List Tree) (exprs : List Expr) → HasEach trees exprs → map (number_in (trees ++ more)) exprs ≡ map (number_in trees) exprs
 numbers_kept trees more [] has = refl
 numbers_kept trees more (expr ∷ exprs) has =
@@ -118,10 +120,12 @@ abbrev pub HasAxioms : List Tree → List Axiom → Type 0
 HasAxioms trees [] = ⊤
 HasAxioms trees (axiom' ∷ axioms) = HasEach trees (expressions axiom') × HasAxioms trees axioms
 
+-- and stay so when trees are added
 pub has_axioms_kept : (trees more : List Tree) (axioms : List Axiom) → HasAxioms trees axioms → HasAxioms (trees ++ more) axioms
 has_axioms_kept trees more [] has = tt
 has_axioms_kept trees more (axiom' ∷ axioms) has = (has_each_kept trees more (expressions axiom') has.0, has_axioms_kept trees more axioms has.1)
 
+-- axioms over nodes keep their numbers
 pub all_over_kept : (trees more : List Tree) (first : ℕ) (axioms : List Axiom) → HasAxioms trees axioms → all_over (trees ++ more) first axioms ≡ all_over trees first axioms
 all_over_kept trees more first [] has = refl
 all_over_kept trees more first (axiom' ∷ axioms) has =
@@ -138,6 +142,7 @@ pub record AreNumbered (classes : ℕ) (old new : List Tree) (first : ℕ) (axio
   pub grows : new ≡ old ++ more
   pub has : HasAxioms new axioms
 
+-- numbering axioms one after the other
 pub axioms_are : (classes roles first : ℕ) (axioms : List Axiom) (trees : List Tree) → IsForest classes trees → All (IsOver classes roles) axioms →
     AreNumbered classes trees (with_trees trees (compounds_in axioms)) first axioms (numbered_axioms first axioms (nodes_over trees))
 axioms_are classes roles first [] trees forest are = record { over_is = λ small. refl; nodes_are = refl; forest = forest; more = []; grows = sym (append-nil trees); has = tt }

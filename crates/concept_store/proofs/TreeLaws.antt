@@ -31,6 +31,7 @@ same_tree_itself (name a) = eq-eqb a a refl
 same_tree_itself (both a b) = and_from (same_tree a a) (same_tree b b) (same_tree_itself a) (same_tree_itself b)
 same_tree_itself (some r a) = and_from (r == r) (same_tree a a) (eq-eqb r r refl) (same_tree_itself a)
 
+-- one more, written either way
 one_more : (n : ℕ) → 1 + n ≡ suc n
 one_more n = omega arith
 
@@ -83,6 +84,7 @@ found_place tree (first ∷ trees) found = by (same_tree tree first) (found_plac
     by true rest h = omega arith
     by false rest h = omega (arith, rest h)
 
+-- a tree that is not there has the length as its place
 pub lost_place : (tree : Tree) (trees : List Tree) → list_any (same_tree tree) trees ≡ false → place_of tree trees ≡ length trees
 lost_place tree [] lost = refl
 lost_place tree (first ∷ trees) lost = by (same_tree tree first) (lost_place tree trees) lost

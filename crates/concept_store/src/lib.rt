@@ -7,6 +7,8 @@ mod laws;
 mod number;
 mod roles;
 mod store;
+#[cfg(test)]
+mod tests;
 mod types;
 
 pub use build::build_store;

@@ -1,6 +1,6 @@
 -- If only the part in the profile is asked for, no fault is that something is outside of it.
 use Rattle.std.proofs.Common.{◌≡◌, ℕ, ◌-◌, Bool, true, false, cond, List, [], ◌∷◌, map, refl, sym, subst}
-use Rattle.std.specs.Prelude.{nat_eq, Option, Some, None, Result, Ok, Err, IfErr, ⊤}
+use Rattle.std.specs.Prelude.{nat_eq, bytes_eq, Option, Some, None, Result, Ok, Err, IfErr, ⊤}
 use Rattle.ofn_term.specs.declared.item.Item.{Item, roll-Item}
 use Rattle.ofn_term.specs.declared.item.Item.TheOpen.{Item-F}
 use Rattle.ofn_term.specs.declared.item.Item.TheFolds.{ind-Item}
