@@ -29,9 +29,11 @@ pub record IsPlain (text : List ℕ) : Type 0 where
   pub no_hash : begins_with_hash text ≡ false
   pub no_mark : (rest : List ℕ) → text ≢ byte_order_mark ++ rest
 
+-- lists that are the same begin with the same
 heads : (a b : ℕ) (xs ys : List ℕ) → a ∷ xs ≡ b ∷ ys → a ≡ b
 heads a b xs ys e = cc e
 
+-- and go on the same
 tails : (a b : ℕ) (xs ys : List ℕ) → a ∷ xs ≡ b ∷ ys → xs ≡ ys
 tails a b xs ys e = cc e
 
@@ -49,9 +51,11 @@ plain_name (a ∷ b ∷ c ∷ name) more no_hash no_mark = record {
       no_mark name (rw (first, second, third) refl);
 }
 
+-- a quote begins plainly
 plain_quote : (more : List ℕ) → IsPlain (34 ∷ more)
 plain_quote more = record { no_hash = refl; no_mark = λ rest e. absurd (omega (arith, heads _ _ _ _ e)) }
 
+-- and so does a field whose name does
 plain_field : (needs : Bool) (name quoted more : List ℕ) → begins_with_hash name ≡ false → NotMarked name → IsPlain (cond needs (34 ∷ quoted) name ++ 9 ∷ more)
 plain_field true name quoted more no_hash no_mark = plain_quote (quoted ++ 9 ∷ more)
 plain_field false name quoted more no_hash no_mark = plain_name name more no_hash no_mark
@@ -100,19 +104,23 @@ abbrev records_text : List FieldList → List ℕ
 records_text [] = []
 records_text (fields ∷ records) = record_text fields ++ records_text records
 
+-- each record has two fields or more
 abbrev AreWide : List FieldList → Type 0
 AreWide records = AllByRecursion (λ fields. 2 ≤ length fields) records
 
+-- a record of two fields or more is read as it was written
 one_again : (fields : FieldList) (tail : List ℕ) → 2 ≤ length fields → next_record tabbed st.StartRecord [] [] (record_text fields ++ tail) ≡ Some (fields, st.StartRecord, tail)
 one_again [] tail wide = absurd (omega arith)
 one_again (x ∷ []) tail wide = absurd (omega arith)
 one_again (x ∷ y ∷ ys) tail wide = record_again x y ys tail
 
+-- and so are several
 all_again : (records : List FieldList) → AreWide records → Reached tabbed st.StartRecord (records_text records) records st.StartRecord []
 unfolding Reached
 all_again [] wide = (refl, refl)
 all_again (fields ∷ records) wide = ((fields, st.StartRecord, records_text records), one_again fields (records_text records) wide.0, refl, all_again records wide.1)
 
+-- after the last there is no record
 at_end : next_record tabbed st.StartRecord [] [] [] ≡ None
 unfolding next_record
 at_end = refl
@@ -127,12 +135,14 @@ kept_rows prefixes columns [] (fields ∷ records) (row ∷ rows) are = tt
 kept_rows prefixes columns (true ∷ keep) (fields ∷ records) (row ∷ rows) are = (are.0, kept_rows prefixes columns keep records rows are.1)
 kept_rows prefixes columns (false ∷ keep) (fields ∷ records) (row ∷ rows) are = kept_rows prefixes columns keep records rows are.1
 
+-- no more records are kept than there are
 kept_few : (keep : List Bool) (records : List FieldList) → length (kept keep records) ≤ length records
 kept_few keep [] = omega arith
 kept_few [] (fields ∷ records) = omega arith
 kept_few (true ∷ keep) (fields ∷ records) = let few = kept_few keep records in omega arith
 kept_few (false ∷ keep) (fields ∷ records) = let few = kept_few keep records in omega arith
 
+-- the texts of rows are those of their records
 texts_match : (prefixes : Prefixes) (columns : FieldList) (records : List FieldList) (rows : List Row) → AreRows prefixes columns records rows → records_text records ≡ rows_text rows
 texts_match prefixes columns [] [] are = refl
 texts_match prefixes columns [] (row ∷ rows) are = absurd are
@@ -140,6 +150,7 @@ texts_match prefixes columns (fields ∷ records) [] are = absurd are
 texts_match prefixes columns (fields ∷ records) (row ∷ rows) are =
     ap₂ (λ (f : FieldList) (t : List ℕ). record_text f ++ t) (sym are.0.fields_are) (texts_match prefixes columns records rows are.1)
 
+-- each row has two fields or more
 rows_wide : (prefixes : Prefixes) (columns : FieldList) (records : List FieldList) (rows : List Row) → 2 ≤ length columns → AreRows prefixes columns records rows → AreWide records
 rows_wide prefixes columns [] [] wide are = tt
 rows_wide prefixes columns [] (row ∷ rows) wide are = absurd are

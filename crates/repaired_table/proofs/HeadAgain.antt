@@ -24,6 +24,7 @@ other_lines [] after others are some good = good
 other_lines (line ∷ before) after others (inl whole, are) some good = (inl whole, other_lines before after others are some good)
 other_lines (line ∷ before) after others (inr last, are) some good = absurd (omega (arith, ap length last.last, length-append before after))
 
+-- a byte before lines leaves some lines
 onto_some : (b : ℕ) (lines : List (List ℕ)) → 1 ≤ length (onto_line b lines)
 onto_some b [] = omega arith
 onto_some b (line ∷ lines) = omega arith
@@ -33,14 +34,17 @@ some_lines_by : (feed : Bool) (b : ℕ) (lines : List (List ℕ)) → 1 ≤ leng
 some_lines_by true b lines = omega arith
 some_lines_by false b lines = onto_some b lines
 
+-- and so for any bytes
 some_lines : (text : List ℕ) → 1 ≤ length text → 1 ≤ length (lines_of text)
 some_lines [] some = absurd (omega arith)
 some_lines (b ∷ bytes) some = some_lines_by (is_line_feed b) b (lines_of bytes)
 
+-- a byte other than # before lines leaves no header line
 onto_unmarked : (b : ℕ) (lines : List (List ℕ)) → (b == 35) ≡ false → hash_lines (onto_line b lines) ≡ []
 onto_unmarked b [] other = rw other refl
 onto_unmarked b (line ∷ lines) other = rw other refl
 
+-- the same where the byte may be a line feed
 unmarked_by : (feed : Bool) (b : ℕ) (lines : List (List ℕ)) → (b == 35) ≡ false → hash_lines (cond feed ((b ∷ []) ∷ lines) (onto_line b lines)) ≡ []
 unmarked_by true b lines other = rw other refl
 unmarked_by false b lines other = onto_unmarked b lines other
@@ -61,6 +65,7 @@ header_is known head rest counted =
     let text = head ++ rest in
     known.front text ∙ ap (λ (n : ℕ). take n text) (sym counted) ∙ take-append_seam head rest
 
+-- other bytes that do not begin with # leave the header lines as they are
 pub header_again : LinesAreKnown → (head rest others : List ℕ) → length head ≡ bytes_in (header_lines (head ++ rest)) → 1 ≤ length rest
     → begins_with_hash others ≡ false → header_lines (head ++ others) ≡ header_lines (head ++ rest)
 header_again known head rest others counted some other =

@@ -34,6 +34,7 @@ record Swapped (c : ℕ) : Type 0 where
   feed : (swap c == 10) ≡ (c == 10)
   back : swap (swap c) ≡ c
 
+-- a byte that is neither stays
 swapped_other : (c : ℕ) → (c == 9) ≡ false → (c == 44) ≡ false → Swapped c
 unfolding swap
 swapped_other c no_tab no_comma =
@@ -46,14 +47,17 @@ swapped_other c no_tab no_comma =
       back = ap swap same ∙ same;
     }
 
+-- a tab becomes a comma
 swapped_tab : Swapped 9
 unfolding swap
 swapped_tab = record { tab = refl; quote = refl; return = refl; feed = refl; back = refl }
 
+-- and a comma a tab
 swapped_comma : Swapped 44
 unfolding swap
 swapped_comma = record { tab = refl; quote = refl; return = refl; feed = refl; back = refl }
 
+-- each byte that csv sets apart is met where its partner was
 swapped : (c : ℕ) → Swapped c
 swapped c = elim (cases_Bool (c == 9)) [
   | inl tab ↦ subst (λ (z : ℕ). Swapped z) (sym (eqb-true c 9 tab)) swapped_tab
@@ -63,22 +67,27 @@ swapped c = elim (cases_Bool (c == 9)) [
   ]
 ]
 
+-- quotes stay
 quote_stays : swap 34 ≡ 34
 unfolding swap
 quote_stays = refl
 
+-- line feeds stay
 feed_stays : swap 10 ≡ 10
 unfolding swap
 feed_stays = refl
 
+-- commas become tabs
 comma_goes : swap 44 ≡ 9
 unfolding swap
 comma_goes = refl
 
+-- what is exchanged twice is as before
 bytes_back : (bytes : List ℕ) → swap_bytes (swap_bytes bytes) ≡ bytes
 bytes_back [] = refl
 bytes_back (b ∷ bytes) = let t = swapped b in ap₂ (λ (c : ℕ) (cs : List ℕ). c ∷ cs) t.back (bytes_back bytes)
 
+-- and so for fields
 fields_back : (fields : FieldList) → swap_fields (swap_fields fields) ≡ fields
 fields_back [] = refl
 fields_back (field ∷ fields) = ap₂ (λ (f : List ℕ) (fs : FieldList). f ∷ fs) (bytes_back field) (fields_back fields)
@@ -94,6 +103,7 @@ swap_step st.AfterQuote c = let t = swapped c in rw (t.quote, t.tab, t.return, t
 swap_step st.InComment c = let t = swapped c in rw t.feed refl
 swap_step st.AfterCr c = let t = swapped c in rw (t.feed, t.return, t.quote, t.tab) refl
 
+-- a record that was read, exchanged
 abbrev swap_read : Read → Read
 swap_read p = (swap_fields p.0, p.1, swap_bytes p.2)
 
@@ -101,9 +111,11 @@ swap_read p = (swap_fields p.0, p.1, swap_bytes p.2)
 abbrev read_as : State → List ℕ → FieldList → Option Read
 read_as s rest fields = Some (fields, s, rest)
 
+-- a field more
 one_field_more : (fields : FieldList) (field : List ℕ) → swap_fields fields ++ swap_bytes field ∷ [] ≡ swap_fields (fields ++ field ∷ [])
 one_field_more fields field = sym (map-append swap_bytes fields (field ∷ []))
 
+-- a byte more
 one_byte_more : (field : List ℕ) (c : ℕ) → swap_bytes field ++ swap c ∷ [] ≡ swap_bytes (field ++ c ∷ [])
 one_byte_more field c = sym (map-append swap field (c ∷ []))
 
@@ -119,6 +131,7 @@ abbrev NextSwaps : List ℕ → Type 0
 NextSwaps rest = (s : State) (fields : FieldList) (field : List ℕ) → next_record tabbed s (swap_fields fields) (swap_bytes field) (swap_bytes rest)
     ≡ option_map swap_read (next_record default_config s fields field rest)
 
+-- what one action makes of both texts
 swap_act : (s : State) (a : Action) (fields : FieldList) (field : List ℕ) (c : ℕ) (rest : List ℕ) → NextSwaps rest
     → cond (is_end a) (Some (fields_after a (swap_fields fields) (swap_bytes field), s, swap_bytes rest))
     (next_record tabbed s (fields_after a (swap_fields fields) (swap_bytes field)) (field_after a (swap c) (swap_bytes field)) (swap_bytes rest))
@@ -131,6 +144,7 @@ swap_act s act.Copy fields field c rest next =
 swap_act s act.EndField fields field c rest next =
     ap (λ (fs : FieldList). next_record tabbed s fs [] (swap_bytes rest)) (one_field_more fields field) ∙ next s (fields ++ field ∷ []) []
 
+-- the next record of the exchanged text is the exchanged record
 swap_next : (text : List ℕ) → NextSwaps text
 unfolding next_record
 swap_next [] s fields field = swap_end (ends_at_end s) fields field
@@ -141,15 +155,18 @@ swap_next (c ∷ rest) s fields field =
 swap_needs : (b : ℕ) → needs_byte tab_writer (swap b) ≡ needs_byte default_writer b
 swap_needs b = let t = swapped b in rw (t.tab, t.quote, t.return, t.feed) refl
 
+-- a field needs quotes if the exchanged field does
 swap_any : (bytes : List ℕ) → list_any (needs_byte tab_writer) (swap_bytes bytes) ≡ list_any (needs_byte default_writer) bytes
 swap_any [] = refl
 swap_any (b ∷ bytes) = ap₂ (λ (x y : Bool). x || y) (swap_needs b) (swap_any bytes)
 
+-- a byte between quotes
 escaped_by : (quote : Bool) (b : ℕ) (one other : List ℕ) → one ≡ swap_bytes other
     → cond quote (34 ∷ swap b ∷ one) (swap b ∷ one) ≡ swap_bytes (cond quote (34 ∷ b ∷ other) (b ∷ other))
 escaped_by true b one other e = rw (quote_stays, e) refl
 escaped_by false b one other e = rw e refl
 
+-- the bytes of a field between its quotes
 swap_escaped : (bytes : List ℕ) → escaped tab_writer (swap_bytes bytes) ≡ swap_bytes (escaped default_writer bytes)
 unfolding escaped
 swap_escaped [] = refl
@@ -157,20 +174,24 @@ swap_escaped (b ∷ bytes) =
     let t = swapped b in
     rw t.quote (escaped_by (b == 34) b (escaped tab_writer (swap_bytes bytes)) (escaped default_writer bytes) (swap_escaped bytes))
 
+-- a field with quotes or without
 quoted_by : (needs : Bool) (bytes : List ℕ) → cond needs (34 ∷ (escaped tab_writer (swap_bytes bytes) ++ 34 ∷ [])) (swap_bytes bytes)
     ≡ swap_bytes (cond needs (34 ∷ (escaped default_writer bytes ++ 34 ∷ [])) bytes)
 quoted_by true bytes = rw (map-append swap (escaped default_writer bytes) (34 ∷ []), quote_stays, swap_escaped bytes) refl
 quoted_by false bytes = refl
 
+-- the text of a field
 swap_field_text : (field : List ℕ) → field_text tab_writer (swap_bytes field) ≡ swap_bytes (field_text default_writer field)
 swap_field_text field = rw (swap_any field) (quoted_by (list_any (needs_byte default_writer) field) field)
 
+-- the texts of further fields
 swap_fields_text : (fields : FieldList) → fields_text tab_writer (swap_fields fields) ≡ swap_bytes (fields_text default_writer fields)
 unfolding fields_text
 swap_fields_text [] = refl
 swap_fields_text (field ∷ fields) =
     rw (map-append swap (field_text default_writer field) (fields_text default_writer fields), comma_goes, swap_field_text field, swap_fields_text fields) refl
 
+-- the text of a record of two fields or more
 swap_row : (x y : List ℕ) (ys : FieldList) → row_text tab_writer (swap_fields (x ∷ y ∷ ys)) ≡ swap_bytes (row_text default_writer (x ∷ y ∷ ys))
 unfolding is_blank
 swap_row x y ys =

@@ -41,9 +41,11 @@ one_written contents old new text fields held same ended clean appends =
 kept_by : (keeps : Bool) (keep : List Bool) (row : Row) (rows : List Row) → keeps ≡ true → rows_text (kept (keeps ∷ keep) (row ∷ rows)) ≡ record_text row.fields ++ rows_text (kept keep rows)
 kept_by keeps keep row rows is = rw is refl
 
+-- and where it is not
 left_by : (keeps : Bool) (keep : List Bool) (row : Row) (rows : List Row) → keeps ≡ false → rows_text (kept (keeps ∷ keep) (row ∷ rows)) ≡ rows_text (kept keep rows)
 left_by keeps keep row rows is = rw is refl
 
+-- the same at a place of the lists
 pub kept_at : (keep : List Bool) (rows : List Row) (i : ℕ) (row : Row) → i < length rows → i < length keep → row ≡ get_or rows i row → get_or keep i false ≡ true
     → rows_text (kept (drop i keep) (drop i rows)) ≡ record_text row.fields ++ rows_text (kept (drop (i + 1) keep) (drop (i + 1) rows))
 kept_at keep rows i row in_rows in_keep here is =
@@ -55,6 +57,7 @@ some_first [] i within = absurd (omega arith)
 some_first (row ∷ rows) zero within = (row, refl)
 some_first (row ∷ rows) (suc i) within = some_first rows i (omega arith)
 
+-- and where the row at the place is left out
 pub left_at : (keep : List Bool) (rows : List Row) (i : ℕ) → i < length rows → i < length keep → get_or keep i false ≡ false
     → rows_text (kept (drop i keep) (drop i rows)) ≡ rows_text (kept (drop (i + 1) keep) (drop (i + 1) rows))
 left_at keep rows i in_rows in_keep is =
@@ -68,6 +71,7 @@ none_left [] (suc i) past = refl
 none_left (row ∷ rows) zero past = absurd (omega arith)
 none_left (row ∷ rows) (suc i) past = none_left rows i (omega arith)
 
+-- so all is written then
 pub all_done : (done text : List ℕ) (keep keeps : List Bool) (rows : List Row) (i : ℕ) → length rows ≤ i
     → done ++ rows_text (kept keeps (drop i rows)) ≡ text ++ rows_text (kept keep rows) → done ≡ text ++ rows_text (kept keep rows)
 all_done done text keep keeps rows i past whole =
