@@ -11,6 +11,7 @@ use Rattle.fact_layers.specs.Inside.Stacks.{Placed, all_items}
 use Rattle.fact_layers.proofs.Parts.{at_left, at_right}
 use Rattle.fact_layers.proofs.Layered.{front_more, items_split, rest_split, front_len, split_len}
 
+-- the facts of joined lists
 pub facts_joined : (a b : List Proved) → facts_of (a ++ b) ≡ facts_of a ++ facts_of b
 facts_joined a b = map-append (λ (item : Proved). item.fact) a b
 

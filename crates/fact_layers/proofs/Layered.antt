@@ -16,6 +16,7 @@ use Rattle.fact_layers.proofs.Parts.{IsPart, middle_part, read_part, has_in, par
 pub items_split : (layers : List Placed) (k : ℕ) → all_items layers ≡ all_items (take k layers) ++ all_items (drop k layers)
 items_split layers k = ap all_items (sym (take-append-drop k layers)) ∙ flat_map-append (λ (l : Placed). l.items) (take k layers) (drop k layers)
 
+-- the items of one layer and of those after it
 pub rest_split : (layers : List Placed) (k : ℕ) (d : Placed) → k < length layers → all_items (drop k layers) ≡ (get_or layers k d).items ++ all_items (drop (k + 1) layers)
 rest_split layers k d low = ap all_items (drop_more layers k d low) ∙ flat_map-cons (λ (l : Placed). l.items) (get_or layers k d) (drop (k + 1) layers)
 
@@ -23,6 +24,7 @@ rest_split layers k d low = ap all_items (drop_more layers k d low) ∙ flat_map
 pub front_more : (layers : List Placed) (k : ℕ) (d : Placed) → k < length layers → all_items (take (k + 1) layers) ≡ all_items (take k layers) ++ ((get_or layers k d).items ++ [])
 front_more layers k d low = ap all_items (take_more layers k d low) ∙ flat_map-append (λ (l : Placed). l.items) (take k layers) (get_or layers k d ∷ []) ∙ ap (λ (xs : List Proved). all_items (take k layers) ++ xs) (flat_map-cons (λ (l : Placed). l.items) (get_or layers k d) [])
 
+-- how many items the first layers have, with one layer more
 pub front_len : (layers : List Placed) (k : ℕ) (d : Placed) → k < length layers → length (all_items (take (k + 1) layers)) ≡ length (all_items (take k layers)) + length (get_or layers k d).items
 front_len layers k d low =
     let whole = ap length (front_more layers k d low) ∙ length-append (all_items (take k layers)) ((get_or layers k d).items ++ []) in
@@ -116,5 +118,6 @@ item_here layers k d p item h low above at =
 pub rest_len : (layers : List Placed) (k : ℕ) (d : Placed) → k < length layers → length (all_items (drop k layers)) ≡ length (get_or layers k d).items + length (all_items (drop (k + 1) layers))
 rest_len layers k d low = ap length (rest_split layers k d low) ∙ length-append (get_or layers k d).items (all_items (drop (k + 1) layers))
 
+-- how many items the first layers and the rest have
 pub split_len : (layers : List Placed) (k : ℕ) → length (all_items layers) ≡ length (all_items (take k layers)) + length (all_items (drop k layers))
 split_len layers k = ap length (items_split layers k) ∙ length-append (all_items (take k layers)) (all_items (drop k layers))

@@ -11,6 +11,7 @@ use Rattle.fact_table.specs.Places.{IsFoundAt, IsLastBelow, IsClear}
 use Rattle.fact_layers.proofs.Parts.{IsPart, at_left, at_right, last_part, last_in_front, last_in_part, clear_part, clear_past, shifted_some}
 use Rattle.fact_layers.proofs.Copied.{facts_joined}
 
+-- as many facts as items
 fact_len : (items : List Proved) → length (facts_of items) ≡ length items
 fact_len items = length-map items (λ (x : Proved). x.fact)
 

@@ -25,14 +25,13 @@ at_right (x ∷ xs) ys p =
 pub record IsPart {X : Type 0} (xs part : List X) (start : ℕ) : Type 0 where
   pub same : (p : ℕ) → p < length part → slice_get xs (start + p) ≡ slice_get part p
 
+-- what stands between a front and a rest
 pub middle_part : {X : Type 0} (front part rest : List X) → IsPart (front ++ (part ++ rest)) part (length front)
 middle_part front part rest = record { same = λ p low. at_right front (part ++ rest) p ∙ at_left part rest p low }
 
+-- what stands after a front
 pub last_part : {X : Type 0} (front part : List X) → IsPart (front ++ part) part (length front)
 last_part front part = record { same = λ p low. at_right front part p }
-
-pub first_part : {X : Type 0} (part rest : List X) → IsPart (part ++ rest) part 0
-first_part part rest = record { same = λ p low. let zero_first : 0 + p ≡ p = omega arith in ap (slice_get (part ++ rest)) zero_first ∙ at_left part rest p low }
 
 -- what is read of a part is a part of what is read
 pub read_part : {X Y : Type 0} (read : X → Y) (xs part : List X) (start : ℕ) → IsPart xs part start → IsPart (map read xs) (map read part) start
@@ -85,6 +84,7 @@ clear_front key front rest k below none after q above under has = elim (cases_or
   | inr (inr more) ↦ after q (omega (arith, more)) under has
 ]
 
+-- the last such place of a front is that of the list, if what comes after it is clear
 pub last_in_front : {X K : Type 0} (key : X → K) (front rest : List X) (k : K) (below : ℕ) (result : Option ℕ) → IsLastBelow key front k below result → IsClear key (front ++ rest) k (length front) below → IsLastBelow key (front ++ rest) k below result
 last_in_front key front rest k below None last after = clear_front key front rest k below last after
 last_in_front key front rest k below (Some p) last after =

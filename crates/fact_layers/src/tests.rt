@@ -109,6 +109,7 @@ fn looks_through_all_layers(rt: HostRuntime) -> Result<(), Fail> {
     assert_eq!(rt; base.last(FactSide::Into, FactGroup::Subs(3), 8), Some(6));
     assert_eq!(rt; base.next_from(3, None), Some(3));
     assert_eq!(rt; layers.next_into(3, Some(6)), Some(7));
+    assert!(rt; layers.len() == 8);
     assert_eq!(rt; layers.at(2).fact, Fact::Link(2, 0, 3));
     Ok(())
 }

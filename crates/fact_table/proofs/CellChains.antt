@@ -15,10 +15,12 @@ use Rattle.fact_table.specs.Inside.Chains.{AreChainedBy}
 use Rattle.fact_table.specs.Inside.Cells.{AreCellsBy, AreCellsChained, HasHeads, HasAsMany, IsPut, IsPutBy, cell_facts, same_link, link_at}
 use Rattle.fact_table.proofs.Chains.{chained_more, chained_less, chained_none}
 
+-- a bucket is within its mask
 pub bucket_within : (mask : ℕ) (fact : Fact) → bucket_of mask fact ≤ mask
 unfolding bucket_of
 bucket_within mask fact = and_le_r _ mask
 
+-- a head is within its mask
 pub head_within : (side : FactSide) (mask : ℕ) (fact : Fact) → head_at side mask fact ≤ mask
 unfolding head_of
 head_within side mask fact = and_le_r _ mask
@@ -109,9 +111,11 @@ put_many fact place cell before after put = record {
   into = ap length put.into.heads_are ∙ length-set before.into.items (head_at Into (length before.into.items - 1) fact) (place + 1);
 }
 
+-- as many heads, twice over
 pub many_then : (a b d : ChainHeads) → HasAsMany a b → HasAsMany b d → HasAsMany a d
 many_then a b d h k = record { same = k.same ∙ h.same; from = k.from ∙ h.from; into = k.into ∙ h.into }
 
+-- as many heads as it has
 pub many_refl : (a : ChainHeads) → HasAsMany a a
 many_refl a = record { same = refl; from = refl; into = refl }
 

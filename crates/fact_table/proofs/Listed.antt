@@ -14,6 +14,7 @@ proved_len [] reasons each = refl
 proved_len (cell ∷ cells) [] each = each
 proved_len (cell ∷ cells) (reason ∷ reasons) each = ap suc (proved_len cells reasons (omega (arith, each)))
 
+-- the facts of what is listed are those of the cells
 pub proved_facts : (cells : List Cell) (reasons : List Reason) → length reasons ≡ length cells → facts_of (proved_of cells reasons) ≡ cell_facts cells
 proved_facts [] reasons each = refl
 proved_facts (cell ∷ cells) [] each = absurd (omega (arith, each))

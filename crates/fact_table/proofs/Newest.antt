@@ -19,6 +19,7 @@ newest_pick key k n v (Some x) = elim (cases_eq (key x) k) [
 newest_cases : {X : Type 0} (key : X → ℕ) (xs : List X) (k n : ℕ) → ((newest key xs k (suc n) ≡ suc n) × HasKeyAt key xs k n) ⊎ ((newest key xs k (suc n) ≡ newest key xs k n) × ((x : X) → slice_get xs n ≡ Some x → key x ≡ k → ⊥))
 newest_cases key xs k n = newest_pick key k n (newest key xs k n) (slice_get xs n)
 
+-- the newest place below n is below n
 pub newest_within : {X : Type 0} (key : X → ℕ) (xs : List X) (k n : ℕ) → newest key xs k n ≤ n
 newest_within key xs k zero = omega arith
 newest_within key xs k (suc n) = elim (newest_cases key xs k n) [
@@ -59,6 +60,7 @@ pushed_before [] f p low = absurd (omega (arith, low))
 pushed_before (x ∷ xs) f zero low = refl
 pushed_before (x ∷ xs) f (suc p) low = pushed_before xs f p (omega (arith, low))
 
+-- one more element is the last
 pub pushed_last : {X : Type 0} (xs : List X) (f : X) → slice_get (xs ++ f ∷ []) (length xs) ≡ Some f
 pushed_last [] f = refl
 pushed_last (x ∷ xs) f = pushed_last xs f

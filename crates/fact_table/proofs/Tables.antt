@@ -26,6 +26,7 @@ distinct_more facts fact distinct absent p q x here there = elim (pushed_cases f
   ]
 ]
 
+-- a table with one more fact
 pub table_more : (cells : List Cell) (reasons : List Reason) (before after : ChainHeads) (spare cells_room reasons_room : ℕ) (fact : Fact) (cell : Cell) (reason : Reason)
     → IsTable cells reasons before spare cells_room reasons_room → IsAbsent (cell_facts cells) fact → 0 < spare → IsPut fact (length cells) cell before after
     → IsTable (cells ++ cell ∷ []) (reasons ++ reason ∷ []) after (spare - 1) cells_room reasons_room

@@ -41,6 +41,7 @@ fn cuts_what_it_inserted(rt: HostRuntime) -> Result<(), Fail> {
     assert_eq!(rt; put(&mut table, Fact::Sub(2, 0)), Some(1));
     assert_eq!(rt; table.find(Fact::Sub(2, 0)), Some(1));
     assert_eq!(rt; table.next_from(2, Some(0)), Some(1));
+    assert!(rt; table.len() == 2);
     table.cut(1);
     assert_eq!(rt; table.len(), 1);
     assert_eq!(rt; table.find(Fact::Sub(2, 0)), None);
