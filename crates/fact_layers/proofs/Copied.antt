@@ -8,22 +8,12 @@ use Rattle.fact_table.specs.declared.types.Fact.{Fact}
 use Rattle.fact_table.specs.declared.types.Proved.{Proved}
 use Rattle.fact_table.specs.Lists.{AreDistinctFacts, IsAbsent, facts_of}
 use Rattle.fact_layers.specs.Inside.Stacks.{Placed, all_items}
-use Rattle.fact_layers.proofs.Parts.{at_left, at_right}
+use Rattle.fact_layers.proofs.Parts.{at_left, at_right, joined_cases, only_at}
 use Rattle.fact_layers.proofs.Layered.{front_more, items_split, rest_split, front_len, split_len}
 
 -- the facts of joined lists
 pub facts_joined : (a b : List Proved) → facts_of (a ++ b) ≡ facts_of a ++ facts_of b
 facts_joined a b = map-append (λ (item : Proved). item.fact) a b
-
--- what a list has with one more element
-pub added_cases : {X : Type 0} (xs : List X) (f x : X) (p : ℕ) → slice_get (xs ++ f ∷ []) p ≡ Some x → ((p < length xs) × (slice_get xs p ≡ Some x)) ⊎ ((p ≡ length xs) × (f ≡ x))
-added_cases [] f x zero e = inr (refl, same_Some f x e)
-added_cases [] f x (suc p) e = absurd (none-some x e)
-added_cases (y ∷ xs) f x zero e = inl (omega arith, e)
-added_cases (y ∷ xs) f x (suc p) e = elim (added_cases xs f x p e) [
-  | inl h ↦ inl (omega (arith, h.0), h.1)
-  | inr h ↦ inr (omega (arith, h.0), h.1)
-]
 
 -- the facts of a front are distinct
 pub distinct_front : (a b : List Proved) → AreDistinctFacts (facts_of (a ++ b)) → AreDistinctFacts (facts_of a)
@@ -92,14 +82,15 @@ distinct_more a b item h absent =
     let xs = facts_of (a ++ b) in
     let are : facts_of (a ++ (b ++ item ∷ [])) ≡ xs ++ item.fact ∷ [] = ap facts_of (sym (append_assoc a b (item ∷ []))) ∙ facts_joined (a ++ b) (item ∷ []) in
     let P : List Fact → Type 0 = λ ys. (p q : ℕ) (fact : Fact) → slice_get ys p ≡ Some fact → slice_get ys q ≡ Some fact → p ≡ q in
-    subst P (sym are) (λ p q fact here there. elim (added_cases xs item.fact fact p here) [
-      | inl at ↦ elim (added_cases xs item.fact fact q there) [
+    let one = item.fact ∷ [] in
+    subst P (sym are) (λ p q fact here there. elim (joined_cases xs one p fact here) [
+      | inl at ↦ elim (joined_cases xs one q fact there) [
         | inl too ↦ h p q fact at.1 too.1
-        | inr new ↦ absurd (absent p (at.1 ∙ ap Some (sym new.1)))
+        | inr new ↦ absurd (absent p (at.1 ∙ ap Some (sym (only_at item.fact fact new.0 new.2).1)))
       ]
-      | inr at ↦ elim (added_cases xs item.fact fact q there) [
-        | inl too ↦ absurd (absent q (too.1 ∙ ap Some (sym at.1)))
-        | inr new ↦ at.0 ∙ sym new.0
+      | inr at ↦ elim (joined_cases xs one q fact there) [
+        | inl too ↦ absurd (absent q (too.1 ∙ ap Some (sym (only_at item.fact fact at.0 at.2).1)))
+        | inr new ↦ omega (arith, at.1, new.1, (only_at item.fact fact at.0 at.2).0, (only_at item.fact fact new.0 new.2).0)
       ]
     ])
 

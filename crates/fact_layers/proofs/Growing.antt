@@ -1,7 +1,7 @@
 -- Bases with one layer more, and with their first layers only.
 use Rattle.std.proofs.Common.{◌≡◌, ◌∙◌, ℕ, zero, suc, ◌+◌, ◌<◌, ◌≤◌, ◌^◌, List, [], ◌∷◌, ◌++◌, length, take, drop, Some, refl, sym, ap, subst, arith, append_assoc, append-nil, inl, inr}
 use Rattle.std.specs.Prelude.{slice_get}
-use Rattle.std.proofs.lemmas.List.{length-append, length-take-le, take-append-le, take_all}
+use Rattle.std.proofs.lemmas.List.{length-append, length-take-le, take-append-le, take_all, take-append-drop}
 use Rattle.std.proofs.lemmas.List.Concat.{flat_map-cons}
 use Rattle.std.proofs.lemmas.Grind.{flat_map-append}
 use Rattle.std.proofs.lemmas.Option.{slice_get_within}
@@ -9,7 +9,8 @@ use Rattle.fact_table.specs.declared.types.Proved.{Proved}
 use Rattle.fact_table.specs.Lists.{AreDistinctFacts, facts_of}
 use Rattle.fact_layers.specs.Inside.Stacks.{Placed, all_items, IsBase}
 use Rattle.fact_layers.proofs.Layered.{items_split, split_len}
-use Rattle.fact_layers.proofs.Copied.{added_cases, distinct_front}
+use Rattle.fact_layers.proofs.Copied.{distinct_front}
+use Rattle.fact_layers.proofs.Parts.{at_left, joined_cases, only_at}
 
 -- the items with one layer more
 pub items_more : (layers : List Placed) (one : Placed) → all_items (layers ++ one ∷ []) ≡ all_items layers ++ one.items
@@ -21,10 +22,12 @@ base_more layers total one h start shallow small distinct =
     let items = items_more layers one in
     let P : List Proved → Type 0 = λ xs. AreDistinctFacts (facts_of xs) in
     record {
-      in_place = λ k layer at. elim (added_cases layers one layer k at) [
+      in_place = λ k layer at. elim (joined_cases layers (one ∷ []) k layer at) [
         | inl old ↦ h.in_place k layer old.1 ∙ ap (λ (ls : List Placed). length (all_items ls)) (sym (take-append-le k layers (one ∷ []) (omega (arith, old.0))))
-        | inr new ↦
-            let front : take k (layers ++ one ∷ []) ≡ layers = take-append-le k layers (one ∷ []) (omega (arith, new.0)) ∙ take_all k layers (omega (arith, new.0)) in
+        | inr rest ↦
+            let new = only_at one layer rest.0 rest.2 in
+            let last : k ≡ length layers = omega (arith, rest.1, new.0) in
+            let front : take k (layers ++ one ∷ []) ≡ layers = take-append-le k layers (one ∷ []) (omega (arith, last)) ∙ take_all k layers (omega (arith, last)) in
             ap (λ (l : Placed). l.start) (sym new.1) ∙ start ∙ h.total_is ∙ ap (λ (ls : List Placed). length (all_items ls)) (sym front)
       ];
       total_is = omega (arith, h.total_is, ap length items, length-append (all_items layers) one.items);
@@ -40,22 +43,18 @@ take_first (suc k) zero xs low = absurd (omega (arith, low))
 take_first (suc k) (suc n) [] low = refl
 take_first (suc k) (suc n) (x ∷ xs) low = ap (λ (ys : List _). x ∷ ys) (take_first k n xs (omega (arith, low)))
 
--- what the first elements of a list have
-taken_at : {X : Type 0} (n : ℕ) (xs : List X) (p : ℕ) (x : X) → slice_get (take n xs) p ≡ Some x → slice_get xs p ≡ Some x
-taken_at zero xs p x e = absurd (omega (arith, slice_get_within [] p x e))
-taken_at (suc n) [] p x e = e
-taken_at (suc n) (y ∷ xs) zero x e = e
-taken_at (suc n) (y ∷ xs) (suc p) x e = taken_at n xs p x e
-
 -- the first layers of a base
 pub base_front : (layers : List Placed) (total first : ℕ) → IsBase layers total → first ≤ length layers → IsBase (take first layers) (length (all_items (take first layers)))
 base_front layers total first h within =
     let P : List Proved → Type 0 = λ xs. AreDistinctFacts (facts_of xs) in
     let long : length (take first layers) ≡ first = length-take-le first layers within in
+    let whole : (k : ℕ) (layer : Placed) → slice_get (take first layers) k ≡ Some layer → slice_get layers k ≡ Some layer = λ k layer at.
+    ap (λ (ls : List Placed). slice_get ls k) (sym (take-append-drop first layers))
+    ∙ at_left (take first layers) (drop first layers) k (slice_get_within (take first layers) k layer at) ∙ at in
     record {
       in_place = λ k layer at.
           let low : k < first = omega (arith, long, slice_get_within (take first layers) k layer at) in
-          h.in_place k layer (taken_at first layers k layer at) ∙ ap (λ (ls : List Placed). length (all_items ls)) (sym (take_first k first layers (omega (arith, low))));
+          h.in_place k layer (whole k layer at) ∙ ap (λ (ls : List Placed). length (all_items ls)) (sym (take_first k first layers (omega (arith, low))));
       total_is = refl;
       small = omega (arith, h.small, h.total_is, split_len layers first);
       distinct = distinct_front (all_items (take first layers)) (all_items (drop first layers)) (subst P (items_split layers first) h.distinct);

@@ -1,10 +1,10 @@
 -- Parts of a list, and answers of look-ups in them.
-use Rattle.std.proofs.Common.{◌≡◌, ◌∙◌, ℕ, zero, suc, ◌+◌, ◌-◌, ◌<◌, ◌≤◌, List, [], ◌∷◌, ◌++◌, length, map, Option, Some, None, refl, sym, ap, subst, arith, inl, inr}
+use Rattle.std.proofs.Common.{◌≡◌, ◌∙◌, ◌⊎◌, ℕ, zero, suc, ◌+◌, ◌-◌, ◌<◌, ◌≤◌, List, [], ◌∷◌, ◌++◌, length, map, Option, Some, None, refl, sym, ap, subst, arith, inl, inr}
 use Rattle.std.specs.Prelude.{slice_get}
 use Rattle.std.specs.Option.{option_map}
 use Rattle.std.proofs.lemmas.Bool.{cases_order}
 use Rattle.std.proofs.lemmas.List.{length-map}
-use Rattle.std.proofs.lemmas.Option.{slice_get_within, slice_get-map}
+use Rattle.std.proofs.lemmas.Option.{slice_get_within, slice_get-map, same_Some, none-some}
 use Rattle.fact_table.specs.Places.{HasKeyAt, IsClear, IsLastBelow}
 use Rattle.fact_layers.specs.Inside.Stacks.{IsShifted}
 
@@ -20,6 +20,21 @@ at_right [] ys p = let zero_first : 0 + p ≡ p = omega arith in ap (slice_get y
 at_right (x ∷ xs) ys p =
     let next : suc (length xs) + p ≡ suc (length xs + p) = omega arith in
     ap (slice_get (x ∷ (xs ++ ys))) next ∙ at_right xs ys p
+
+-- so what a joined list has is of its front or of its rest
+pub joined_cases : {X : Type 0} (xs ys : List X) (p : ℕ) (x : X) → slice_get (xs ++ ys) p ≡ Some x
+    → ((p < length xs) × (slice_get xs p ≡ Some x)) ⊎ ((q : ℕ) × (p ≡ length xs + q) × (slice_get ys q ≡ Some x))
+joined_cases [] ys p x at = inr (p, omega arith, at)
+joined_cases (y ∷ xs) ys zero x at = inl (omega arith, at)
+joined_cases (y ∷ xs) ys (suc p) x at = elim (joined_cases xs ys p x at) [
+  | inl front ↦ inl (omega (arith, front.0), front.1)
+  | inr rest ↦ inr (rest.0, omega (arith, rest.1), rest.2)
+]
+
+-- the only element of a list
+pub only_at : {X : Type 0} (f x : X) (q : ℕ) → slice_get (f ∷ []) q ≡ Some x → (q ≡ 0) × (f ≡ x)
+only_at f x zero at = (refl, same_Some f x at)
+only_at f x (suc q) at = absurd (none-some x at)
 
 -- a part of a list, from a place on
 pub record IsPart {X : Type 0} (xs part : List X) (start : ℕ) : Type 0 where
