@@ -1,6 +1,7 @@
 pub mod GivenLaws
 pub mod NumberLaws
 pub mod TakingLaws
+pub mod MarkLaws
 pub mod ReadLaws
 pub mod PlainLaws
 pub mod Gave

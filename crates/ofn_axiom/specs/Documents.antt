@@ -1,5 +1,5 @@
 -- What a document has: a reading, or a first fault.
-use Rattle.std.specs.Prelude.{◌≡◌, ℕ, Bool, true, false, not, if◌then◌else◌, List, [], ◌∷◌, length, take, bytes_eq, Option, Some, None, Result, Ok, Err, IsUtf8}
+use Rattle.std.specs.Prelude.{◌≡◌, ℕ, Bool, true, false, if◌then◌else◌, List, [], ◌∷◌, length, take, bytes_eq, Option, Some, None, Result, Ok, Err, IsUtf8}
 use Rattle.std.specs.Str.{IsValidUpTo}
 use Rattle.byte_words.specs.Faults.{OrOutOfMemory}
 use Rattle.byte_words.specs.Fronts.{without_mark}

@@ -7,6 +7,7 @@ mod document;
 mod fault;
 mod items;
 mod laws;
+mod marks;
 mod numbers;
 mod ontology;
 mod read;

@@ -1,28 +1,21 @@
 //! What stands in an ontology: up to two IRIs, then direct items.
 
 ghost use Rattle.std.specs.Prelude.{◌≡◌, ◌≤◌, ◌+◌, map, length, Ok, Err, IfErr, OnOk};
+ghost use Rattle.ofn_axiom.specs.Inside.Marks.{IsMark};
 ghost use Rattle.ofn_axiom.specs.Inside.Steps.{Gives, Fails};
 ghost use Rattle.ofn_axiom.specs.Given.{given, after_iris, directs, ontology_group};
-ghost use Rattle.ofn_axiom.specs.Taking.{place_at, with_direct, taken_in, passed_over, taken, IsNamesBefore};
+ghost use Rattle.ofn_axiom.specs.Taking.{with_direct, taken_in, passed_over, taken, IsNamesBefore};
 
 use crate::axioms::direct_of;
 use crate::fault::{OffsetFault, Stop};
 use crate::items::{first_item, name_of_item, place_of_item};
+use crate::marks::{Mark, mark_of, place_from};
 use crate::numbers::{axiom_over, hold_all, mentions_of};
 use crate::types::{Direct, Document, Mode, Names, Omitted};
-use ofn_heads::{Named, piece};
+use ofn_heads::Named;
 use ofn_term::Item;
 use std::alloc::{AllocError, Global};
-use text_names::{Place, PrefixMap, place_of};
-
-// The place of an offset.
-#[tactic(auto, using(crate::proofs::TakingLaws::whole_front))]
-pub fn place_at(text: &[u8], at: usize) -> Place
-    ensures { result ≡ place_at text.now at }
-{
-    let front = piece(text, 0, at).as_bytes();
-    place_of(front, front.len())
-}
+use text_names::PrefixMap;
 
 // What follows up to two IRIs.
 fn after_iris<'a>(
@@ -101,19 +94,22 @@ fn pass_over(
     text: &[u8],
     mode: Mode,
     fault: OffsetFault,
+    mark: &mut Mark,
     document: &mut Document,
     names: &Names,
 ) -> Result<(), Stop>
+    requires mark { IsMark text.now mark.old }
     ensures ok { OnOk result (passed_over text.now mode fault (document.old, names.now) ≡
         Ok (document.new, names.now)) }
     ensures err { IfErr result (λ stop. Fails stop
         (passed_over text.now mode fault (document.old, names.now))) }
+    ensures mark { IsMark text.now mark.new }
 {
     match mode {
         Mode::Strict => Err(Stop::Fault(fault)),
         Mode::ElPart => match fault {
             OffsetFault::Profile { at, head } => {
-                let place = place_at(text, at);
+                let place = place_from(text, mark, at);
                 document.omitted.push(Omitted { place, head })?;
                 Ok(())
             }
@@ -128,19 +124,22 @@ fn take(
     prefixes: &PrefixMap,
     mode: Mode,
     item: &Item,
+    mark: &mut Mark,
     document: &mut Document,
     names: &mut Names,
 ) -> Result<(), Stop>
+    requires mark { IsMark text.now mark.old }
     ensures ok { OnOk result (taken text.now mode (given text.now prefixes.now item.now).direct
         (document.old, names.old) ≡ Ok (document.new, names.new)) }
     ensures err { IfErr result (λ stop. Fails stop (taken text.now mode
         (given text.now prefixes.now item.now).direct (document.old, names.old))) }
+    ensures mark { IsMark text.now mark.new }
     ensures grows { IsNamesBefore names.old names.new }
 {
     match direct_of(alloc, text, prefixes, item) {
         Ok(direct) => take_read(alloc, &direct, document, names),
         Err(Stop::Memory) => Err(Stop::Memory),
-        Err(Stop::Fault(fault)) => pass_over(text, mode, fault, document, names),
+        Err(Stop::Fault(fault)) => pass_over(text, mode, fault, mark, document, names),
     }
 }
 
@@ -159,8 +158,11 @@ fn directs(
         (map (given text.now prefixes.now) items.now) (document.old, names.old))) }
     ensures grows { IsNamesBefore names.old names.new }
 {
+    let mut mark = mark_of(text);
     for item in items {
-        match take(alloc, text, prefixes, mode, item, document, names) {
+        match take(
+            alloc, text, prefixes, mode, item, &mut mark, document, names,
+        ) {
             Ok(()) => {}
             Err(stop) => return Err(stop),
         }

@@ -9,7 +9,7 @@ ghost use Rattle.ofn_axiom.specs.Taking.{IsNamesBefore};
 
 use crate::document::document_of;
 use crate::fault::{DocFault, DocKind, OffsetFault, Stop};
-use crate::ontology::place_at;
+use crate::marks::place_at;
 use crate::types::{Document, Mode, Names};
 use byte_words::without_mark;
 use ofn_term::{TermFault, items_are_written_out, read_items};

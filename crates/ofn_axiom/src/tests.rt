@@ -450,6 +450,10 @@ fn leaves_out_what_is_outside(rt: HostRuntime) -> Result<(), Fail> {
             "2 0:sub c0 c1; omitted 1:25 ObjectUnionOf omitted 2:21 Import",
         ),
         (
+            "HasKey(\"é€\") Import()\n\n  DLSafeRule()",
+            "0 0: omitted 1:10 HasKey omitted 1:23 Import omitted 3:3 DLSafeRule",
+        ),
+        (
             "ReflexiveObjectProperty(owl:topObjectProperty)",
             "0 0: omitted 1:34 owl:topObjectProperty",
         ),
