@@ -1,0 +1,43 @@
+-- Documents whose texts are short are over the names of both.
+use Rattle.std.proofs.Common.{◌<◌, ◌≤◌, ℕ, ◌^◌, Bool, true, false, cond, List, length, take, drop, ap, arith, length-append}
+use Rattle.std.specs.Prelude.{Some, None, bytes_eq, unwrap_or}
+use Rattle.std.proofs.lemmas.List.{length-drop}
+use Rattle.byte_words.specs.Fronts.{without_mark, byte_order_mark}
+use Rattle.text_names.specs.Names.{Numbering}
+use Rattle.el_logic.specs.declared.types.Axiom.{Axiom}
+use Rattle.concept_store.specs.Roles.{AreOver, IsOver}
+use Rattle.ofn_axiom.specs.declared.types.Document.{Document}
+use Rattle.ofn_axiom.specs.declared.types.Mode.{Mode}
+use Rattle.ofn_axiom.specs.declared.types.Names.{Names}
+use Rattle.ofn_axiom.specs.Documents.{IsReading}
+use Rattle.ofn_axiom.specs.Taking.{IsTableBefore, IsNamesBefore}
+use Rattle.case_load.proofs.OverNames.{all_more, axiom_over_more}
+
+-- the law on readings
+abbrev pub ReadingsAreOver : Type 0
+ReadingsAreOver = (text : List ℕ) (mode : Mode) (depth : ℕ) (old new : Names) (document : Document) → length text < 2 ^ 31 → IsReading text mode depth old new document →
+    AreOver (length new.classes.names) (length new.roles.names) document.axioms
+
+-- a text without its mark is no longer
+no_longer : (text : List ℕ) → length (without_mark text) ≤ length text
+no_longer text = by (bytes_eq (take 3 text) byte_order_mark)
+  where
+    by : (b : Bool) → length (unwrap_or (cond b (Some (drop 3 text)) None) text) ≤ length text
+    by true = omega (arith, length-drop 3 text)
+    by false = omega arith
+
+pub document_over : ReadingsAreOver → (text : List ℕ) (mode : Mode) (depth : ℕ) (old new : Names) (document : Document) → length text < 2 ^ 31 → IsReading (without_mark text) mode depth old new document →
+    AreOver (length new.classes.names) (length new.roles.names) document.axioms
+document_over law text mode depth old new document short is = law (without_mark text) mode depth old new document (omega (arith, no_longer text, short)) is
+
+more_names : (old new : Numbering) → IsTableBefore old new → length old.names ≤ length new.names
+more_names old new before = omega (arith, ap length before.names, length-append old.names before.more)
+
+-- axioms over some names are over later ones
+pub axioms_over_later : (old new : Names) (axioms : List Axiom) → IsNamesBefore old new → AreOver (length old.classes.names) (length old.roles.names) axioms → AreOver (length new.classes.names) (length new.roles.names) axioms
+axioms_over_later old new axioms before over = record {
+  few = over.few;
+  each = all_more (IsOver (length old.classes.names) (length old.roles.names)) (IsOver (length new.classes.names) (length new.roles.names))
+      (axiom_over_more (length old.classes.names) (length old.roles.names) (length new.classes.names) (length new.roles.names) (more_names old.classes new.classes before.classes) (more_names old.roles new.roles before.roles))
+      axioms over.each;
+}

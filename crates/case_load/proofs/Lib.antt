@@ -1,0 +1,10 @@
+pub mod Cited
+pub mod Steps
+pub mod HeldNames
+pub mod OverNames
+pub mod Widths
+pub mod Chains
+pub mod Readings
+pub mod DocumentLaws
+pub mod InputLaws
+pub mod TableLaws

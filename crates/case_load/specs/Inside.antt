@@ -1,0 +1,4 @@
+-- What only the code of this crate and its proofs cite.
+pub mod Stops
+pub mod Stages
+pub mod Reads

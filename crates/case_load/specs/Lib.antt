@@ -1,0 +1,4 @@
+pub mod Loads
+pub mod Faults
+pub mod Folders
+pub mod Inside
