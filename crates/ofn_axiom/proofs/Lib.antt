@@ -12,3 +12,5 @@ pub mod ChainLaws
 pub mod AxiomLaws
 pub mod AxiomBack
 pub mod AnswerLaws
+pub mod Forms
+pub mod DirectLaws

@@ -5,4 +5,5 @@ pub mod Given
 pub mod Documents
 pub mod Inside
 pub mod StandsFor
+pub mod DirectItems
 pub mod Answers
