@@ -116,10 +116,10 @@ property_declared iri d = first (bytes_eq iri top_property) refl
     first false f e = second f (bytes_eq iri bottom_property) refl e
 
 -- an item that is a token which stands for an IRI
-record IsIriItem (text : List ℕ) (prefixes : Prefixes) (i : Item) (iri : List ℕ) : Type 0 where
-  token : Token
-  same : i ≡ item.Atom token
-  is : IsIri text prefixes token iri
+pub record IriToken (text : List ℕ) (prefixes : Prefixes) (i : Item) (iri : List ℕ) : Type 0 where
+  pub token : Token
+  pub same : i ≡ item.Atom token
+  pub is : IsIri text prefixes token iri
 
 one_named : (at start : ℕ) (n : Named) (iri : List ℕ) → iri_named at start n ≡ Ok iri → n ≡ named.Iri iri
 one_named at start (named.Iri found) iri e = let same : found ≡ iri = cc in ap (λ (l : List ℕ). named.Iri l) same
@@ -127,8 +127,8 @@ one_named at start named.Unknown iri e = cc
 one_named at start named.NoIri iri e = cc
 
 -- an item that has the name of an IRI
-named_item : (text : List ℕ) (prefixes : Prefixes) (i : Item) (iri : List ℕ) → (given text prefixes i).name ≡ named.Iri iri → IsIriItem text prefixes i iri
-named_item text prefixes = by_form (λ i. (iri : List ℕ) → (given text prefixes i).name ≡ named.Iri iri → IsIriItem text prefixes i iri)
+pub named_item : (text : List ℕ) (prefixes : Prefixes) (i : Item) (iri : List ℕ) → (given text prefixes i).name ≡ named.Iri iri → IriToken text prefixes i iri
+named_item text prefixes = by_form (λ i. (iri : List ℕ) → (given text prefixes i).name ≡ named.Iri iri → IriToken text prefixes i iri)
     (λ token. λ iri e. record { token = token; same = refl; is = name_iri text prefixes token iri (sym (ap (λ (g : Given). g.name) (atom_gives text prefixes token)) ∙ e) })
     (λ is start end. λ iri e. let bad : named.NoIri ≡ named.Iri iri = sym (group_has_no_name text prefixes None is start end) ∙ e in cc)
     (λ word is start end. λ iri e. let bad : named.NoIri ≡ named.Iri iri = sym (group_has_no_name text prefixes (Some word) is start end) ∙ e in cc)

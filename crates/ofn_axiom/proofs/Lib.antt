@@ -14,3 +14,6 @@ pub mod AxiomBack
 pub mod AnswerLaws
 pub mod Forms
 pub mod DirectLaws
+pub mod TakenLaws
+pub mod PrefixLaws
+pub mod DocumentLaws

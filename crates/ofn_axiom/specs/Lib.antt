@@ -6,4 +6,5 @@ pub mod Documents
 pub mod Inside
 pub mod StandsFor
 pub mod DirectItems
+pub mod DocumentText
 pub mod Answers

@@ -17,6 +17,7 @@ ghost use Rattle.ofn_axiom.specs.declared.types.IriAxiom.{IriAxiom};
 ghost use Rattle.ofn_axiom.specs.declared.types.Direct.{Direct};
 ghost use Rattle.ofn_axiom.specs.declared.types.Direct.TheVariants as direct;
 ghost use Rattle.ofn_axiom.specs.DirectItems.{IsDirect};
+ghost use Rattle.ofn_axiom.specs.DocumentText.{IsDocumentText};
 ghost use Rattle.ofn_lex.specs.declared.token.Token.{Token};
 ghost use Rattle.ofn_heads.specs.declared.iri.Named.TheVariants as named;
 ghost use Rattle.ofn_heads.specs.Names.{name_of_token};
@@ -73,6 +74,16 @@ pub fn direct_items_are_what_they_say()
         IsDirect text prefixes item said → (given text prefixes item).direct ≡ Ok said }
     ensures says { (text : List ℕ) (prefixes : Prefixes) (item : Item) (said : Direct) →
         (given text prefixes item).direct ≡ Ok said → IsDirect text prefixes item said }
+{}
+
+/// A text is read as a document if and only if it is a text of it: prefixes, then an ontology.
+pub fn documents_are_what_they_say()
+    ensures read { (text : List ℕ) (mode : Mode) (depth : ℕ) (old new : Names)
+        (document : Document) → IsDocumentText text mode depth old new document →
+        IsReading text mode depth old new document }
+    ensures says { (text : List ℕ) (mode : Mode) (depth : ℕ) (old new : Names)
+        (document : Document) → IsReading text mode depth old new document →
+        IsDocumentText text mode depth old new document }
 {}
 
 /// A text has, for given limits and names that are held, one reading or one first fault, and never
