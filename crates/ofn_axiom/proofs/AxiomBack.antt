@@ -158,14 +158,14 @@ annotation_stands : (text : List ℕ) (prefixes : Prefixes) (i : Item) → MayAn
 annotation_stands text prefixes = ind-Item (MayAnnotate text prefixes) (λ x y is. annotation_step text prefixes x)
 
 -- items are annotations, and then what is left after them
-record Parted (text : List ℕ) (prefixes : Prefixes) (is : List Item) : Type 0 where
-  annotations : List Item
-  operands : List Item
-  whole : is ≡ annotations ++ operands
-  are : AreAnnotations text annotations
-  left : after_annotations (map (given text prefixes) is) ≡ map (given text prefixes) operands
+pub record Parted (text : List ℕ) (prefixes : Prefixes) (is : List Item) : Type 0 where
+  pub annotations : List Item
+  pub operands : List Item
+  pub whole : is ≡ annotations ++ operands
+  pub are : AreAnnotations text annotations
+  pub left : after_annotations (map (given text prefixes) is) ≡ map (given text prefixes) operands
 
-parted : (text : List ℕ) (prefixes : Prefixes) (is : List Item) → Parted text prefixes is
+pub parted : (text : List ℕ) (prefixes : Prefixes) (is : List Item) → Parted text prefixes is
 parted text prefixes [] = record { annotations = []; operands = []; whole = refl; are = tt; left = refl }
 parted text prefixes (i ∷ is) = by (is_annotation (given text prefixes i).head) refl (parted text prefixes is)
   where

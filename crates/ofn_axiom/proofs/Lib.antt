@@ -12,3 +12,8 @@ pub mod ChainLaws
 pub mod AxiomLaws
 pub mod AxiomBack
 pub mod AnswerLaws
+pub mod Forms
+pub mod DirectLaws
+pub mod TakenLaws
+pub mod PrefixLaws
+pub mod DocumentLaws

@@ -60,7 +60,7 @@ name_iri text prefixes token iri = by token.kind refl
     by kind.Carets k e = cc
 
 -- a test of equal bytes fails
-other_bytes : (xs ys : List ℕ) → xs ≢ ys → bytes_eq xs ys ≡ false
+pub other_bytes : (xs ys : List ℕ) → xs ≢ ys → bytes_eq xs ys ≡ false
 other_bytes xs ys differ = by (bytes_eq xs ys) refl
   where
     by : (b : Bool) → bytes_eq xs ys ≡ b → bytes_eq xs ys ≡ false

@@ -5,4 +5,6 @@ pub mod Given
 pub mod Documents
 pub mod Inside
 pub mod StandsFor
+pub mod DirectItems
+pub mod DocumentText
 pub mod Answers

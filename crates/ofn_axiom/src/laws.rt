@@ -11,12 +11,26 @@ ghost use Rattle.ofn_axiom.specs.declared.types.Names.{Names};
 ghost use Rattle.ofn_term.specs.declared.item.Item.{Item};
 ghost use Rattle.text_names.specs.Prefixes.{Prefixes};
 ghost use Rattle.ofn_axiom.specs.Given.{given};
-ghost use Rattle.ofn_axiom.specs.StandsFor.{IsProperty, IsClass, IsChain, IsAxiom};
+ghost use Rattle.ofn_axiom.specs.StandsFor.{IsIri, IsProperty, IsClass, IsChain, IsAxiom};
 ghost use Rattle.ofn_axiom.specs.declared.types.IriExpr.{IriExpr};
 ghost use Rattle.ofn_axiom.specs.declared.types.IriAxiom.{IriAxiom};
+ghost use Rattle.ofn_axiom.specs.declared.types.Direct.{Direct};
 ghost use Rattle.ofn_axiom.specs.declared.types.Direct.TheVariants as direct;
+ghost use Rattle.ofn_axiom.specs.DirectItems.{IsDirect};
+ghost use Rattle.ofn_axiom.specs.DocumentText.{IsDocumentText};
+ghost use Rattle.ofn_lex.specs.declared.token.Token.{Token};
+ghost use Rattle.ofn_heads.specs.declared.iri.Named.TheVariants as named;
+ghost use Rattle.ofn_heads.specs.Names.{name_of_token};
 
 use ofn_term::each_text_has_items_or_one_first_fault;
+
+/// A token is read as an IRI if and only if it stands for it.
+pub fn iris_are_what_tokens_stand_for()
+    ensures read { (text : List ℕ) (prefixes : Prefixes) (token : Token) (iri : List ℕ) →
+        IsIri text prefixes token iri → name_of_token text prefixes token ≡ named.Iri iri }
+    ensures stands { (text : List ℕ) (prefixes : Prefixes) (token : Token) (iri : List ℕ) →
+        name_of_token text prefixes token ≡ named.Iri iri → IsIri text prefixes token iri }
+{}
 
 /// An item is read as a property if and only if it stands for it.
 pub fn properties_are_what_stands_for_them()
@@ -52,6 +66,24 @@ pub fn axioms_are_what_states_them()
     ensures stands { (text : List ℕ) (prefixes : Prefixes) (item : Item) (said : IriAxiom) →
         (given text prefixes item).direct ≡ Ok (direct.Axiom said) →
         IsAxiom text prefixes item said }
+{}
+
+/// An item of an ontology is read as what it says: nothing, a declaration or an axiom, and only so.
+pub fn direct_items_are_what_they_say()
+    ensures read { (text : List ℕ) (prefixes : Prefixes) (item : Item) (said : Direct) →
+        IsDirect text prefixes item said → (given text prefixes item).direct ≡ Ok said }
+    ensures says { (text : List ℕ) (prefixes : Prefixes) (item : Item) (said : Direct) →
+        (given text prefixes item).direct ≡ Ok said → IsDirect text prefixes item said }
+{}
+
+/// A text is read as a document if and only if it is a text of it: prefixes, then an ontology.
+pub fn documents_are_what_they_say()
+    ensures read { (text : List ℕ) (mode : Mode) (depth : ℕ) (old new : Names)
+        (document : Document) → IsDocumentText text mode depth old new document →
+        IsReading text mode depth old new document }
+    ensures says { (text : List ℕ) (mode : Mode) (depth : ℕ) (old new : Names)
+        (document : Document) → IsReading text mode depth old new document →
+        IsDocumentText text mode depth old new document }
 {}
 
 /// A text has, for given limits and names that are held, one reading or one first fault, and never
