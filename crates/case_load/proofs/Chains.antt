@@ -29,10 +29,12 @@ use Rattle.case_load.proofs.Widths.{width, width_of, some_width, few_items, inne
 abbrev pub IsChain : ℕ → List (List ℕ) → Type 0
 IsChain most chain = (1 ≤ length chain) × (length chain ≤ most)
 
+-- the chain of an axiom is one, if it has any
 abbrev pub Fits : ℕ → IriAxiom → Type 0
 Fits most (ax.SubRole chain s) = IsChain most chain
 Fits most _ = ⊤
 
+-- so it is of a direct item
 abbrev pub DirectFits : ℕ → Direct → Type 0
 DirectFits most (direct.Axiom a) = Fits most a
 DirectFits most _ = ⊤
@@ -42,14 +44,17 @@ abbrev pub IfRead : {A : Type 0} → (A → Type 0) → Result A OffsetFault →
 IfRead Holds (Ok x) = Holds x
 IfRead Holds (Err f) = ⊤
 
+-- two steps, where the first gives what the second needs
 then_holds : {A B : Type 0} (P : A → Type 0) (Q : B → Type 0) (r : Result A OffsetFault) (next : A → Result B OffsetFault) → IfRead P r → ((x : A) → P x → IfRead Q (next x)) → IfRead Q (r >>= next)
 then_holds P Q (Ok x) next h more = more x h
 then_holds P Q (Err f) next h more = tt
 
+-- two steps, whatever the first gives
 any_holds : {A B : Type 0} (Q : B → Type 0) (r : Result A OffsetFault) (next : A → Result B OffsetFault) → ((x : A) → IfRead Q (next x)) → IfRead Q (r >>= next)
 any_holds Q (Ok x) next more = more x
 any_holds Q (Err f) next more = tt
 
+-- a test
 test_holds : {A : Type 0} (Q : A → Type 0) (b : Bool) (r s : Result A OffsetFault) → IfRead Q r → IfRead Q s → IfRead Q (cond b r s)
 test_holds Q true r s one other = one
 test_holds Q false r s one other = other
@@ -70,6 +75,7 @@ pub record IsFit (most : ℕ) (g : Given) : Type 0 where
   pub chain : IfRead (IsChain most) g.chain
   pub entity : IfRead (DirectFits most) g.entity
 
+-- of each item
 abbrev AreFit : ℕ → List Given → Type 0
 AreFit most [] = ⊤
 AreFit most (g ∷ gs) = IsFit most g × AreFit most gs
@@ -92,11 +98,13 @@ class_fits most iri =
     test_holds (DirectFits most) (bytes_eq iri (codes "http://www.w3.org/2002/07/owl#Thing")) _ _ tt
     (test_holds (DirectFits most) (bytes_eq iri (codes "http://www.w3.org/2002/07/owl#Nothing")) _ _ tt tt)
 
+-- nor is a property
 property_fits : (most : ℕ) (iri : List ℕ) → IfRead (DirectFits most) (as_property iri)
 property_fits most iri =
     test_holds (DirectFits most) (bytes_eq iri (codes "http://www.w3.org/2002/07/owl#topObjectProperty")) _ _ tt
     (test_holds (DirectFits most) (bytes_eq iri (codes "http://www.w3.org/2002/07/owl#bottomObjectProperty")) _ _ tt tt)
 
+-- nor anything else
 entity_fits : (most at : ℕ) (h : Head) (gs : List Given) → IfRead (DirectFits most) (entity_group at h gs)
 entity_fits most at head.Class gs = any_holds (DirectFits most) (one_iri at gs) as_class (class_fits most)
 entity_fits most at head.ObjectProperty gs = any_holds (DirectFits most) (one_iri at gs) as_property (property_fits most)
@@ -115,6 +123,7 @@ class_pair most at (c ∷ d ∷ []) =
     (any_holds (Fits most) c.class (above d) (λ x. any_holds (Fits most) d.class (as_sub_class x) (λ y. tt))) tt
 class_pair most at (c ∷ d ∷ g ∷ gs) = tt
 
+-- a property or a chain, then a property
 property_pair : (most at : ℕ) (gs : List Given) → AreFit most gs → IfRead (Fits most) (sub_property at gs)
 property_pair most at [] fit = tt
 property_pair most at (r ∷ []) fit = tt
@@ -123,6 +132,7 @@ property_pair most at (r ∷ s ∷ []) fit =
     (then_holds (IsChain most) (Fits most) r.chain (role_above s) fit.0.chain (λ chain is. any_holds (Fits most) s.property (as_sub_role chain) (λ y. is))) tt
 property_pair most at (r ∷ s ∷ g ∷ gs) fit = tt
 
+-- any axiom
 axiom_fits : (most at : ℕ) (h : Head) (gs : List Given) → AreFit most gs → IfRead (Fits most) (axiom_group at h gs)
 axiom_fits most at head.SubClassOf gs fit = class_pair most at gs
 axiom_fits most at head.EquivalentClasses gs fit = any_holds (Fits most) (some_classes at gs) as_equivalent (λ x. tt)
@@ -134,6 +144,7 @@ axiom_fits most at head.ReflexiveObjectProperty gs fit = any_holds (Fits most) (
 axiom_fits most at head.ObjectPropertyDomain gs fit = any_holds (Fits most) (property_and_class at gs) as_domain (λ x. tt)
 axiom_fits most at _ gs fit = tt
 
+-- what follows the annotations
 rest_fits : (most : ℕ) (gs : List Given) → AreFit most gs → AreFit most (after_annotations gs)
 rest_fits most [] fit = tt
 rest_fits most (g ∷ gs) fit = by (is_annotation g.head) (rest_fits most gs fit.1)
@@ -142,6 +153,7 @@ rest_fits most (g ∷ gs) fit = by (is_annotation g.head) (rest_fits most gs fit
     by true rest = rest
     by false rest = fit
 
+-- a declaration
 declaration_fits : (most at : ℕ) (gs : List Given) → AreFit most gs → IfRead (DirectFits most) (declaration at gs)
 declaration_fits most at [] fit = tt
 declaration_fits most at (g ∷ []) fit = test_holds (DirectFits most) g.headed g.entity (Err (fault.Shape at)) fit.0.entity tt
@@ -163,10 +175,12 @@ module _ (cited : Cited) (text : List ℕ) (prefixes : Prefixes) where
   unfolding given
   atom_given token = ap (fold-Item Given (given_step text prefixes)) (sym (rolls-Atom token)) ∙ fold-roll-Item Given (given_step text prefixes) (Item-F.Atom token)
 
+  -- a group without a head
   pub bare_given : (items : List Item) (start end : ℕ) → given text prefixes (item.Group None items start end) ≡ given_bare start
   unfolding given
   bare_given items start end = ap (fold-Item Given (given_step text prefixes)) (sym (rolls-Group None items start end)) ∙ fold-roll-Item Given (given_step text prefixes) (Item-F.Group None items start end)
 
+  -- a group with a head
   pub group_given : (word : Token) (items : List Item) (start end : ℕ) → given text prefixes (item.Group (Some word) items start end) ≡ given_group text word.start (head_of (bytes_of text word)) (map (given text prefixes) items)
   unfolding given
   group_given word items start end = ap (fold-Item Given (given_step text prefixes)) (sym (rolls-Group (Some word) items start end)) ∙ fold-roll-Item Given (given_step text prefixes) (Item-F.Group (Some word) items start end)
@@ -175,6 +189,7 @@ module _ (cited : Cited) (text : List ℕ) (prefixes : Prefixes) where
   abbrev ItemFits : Item → Type 0
   ItemFits i = (most : ℕ) → width i ≤ most → IsFit most (given text prefixes i)
 
+  -- one layer of an item
   item_step : (x : Item-F Item) → ItemFits (roll-Item x)
   item_step (Item-F.Atom token) = subst ItemFits (sym (rolls-Atom token)) (λ most wide.
       subst (IsFit most) (sym (atom_given token)) (record {
@@ -189,9 +204,11 @@ module _ (cited : Cited) (text : List ℕ) (prefixes : Prefixes) where
       let few : length gs ≤ most = omega (arith, length-map is (given text prefixes), few_items cited is, inner_width cited (Some word) is start end, wide) in
       subst (IsFit most) (sym (group_given word is start end)) (record { chain = chain_fits most word.start h gs few; entity = entity_fits most word.start h gs }))
 
+  -- each item
   item_fits : (i : Item) → ItemFits i
   item_fits = ind-Item ItemFits (λ x y is. item_step x)
 
+  -- several
   items_fit : (most : ℕ) (is : List Item) → width_of is ≤ most → AreFit most (map (given text prefixes) is)
   items_fit most [] wide = tt
   items_fit most (i ∷ is) wide =
@@ -202,6 +219,7 @@ module _ (cited : Cited) (text : List ℕ) (prefixes : Prefixes) where
   abbrev ItemIsDirect : Item → Type 0
   ItemIsDirect i = (most : ℕ) → width i ≤ most → IfRead (DirectFits most) (given text prefixes i).direct
 
+  -- one layer of an item, directly in an ontology
   direct_step : (x : Item-F Item) → ItemIsDirect (roll-Item x)
   direct_step (Item-F.Atom token) = subst ItemIsDirect (sym (rolls-Atom token)) (λ most wide.
       subst (λ (g : Given). IfRead (DirectFits most) g.direct) (sym (atom_given token)) tt)
@@ -212,5 +230,6 @@ module _ (cited : Cited) (text : List ℕ) (prefixes : Prefixes) where
       subst (λ (g : Given). IfRead (DirectFits most) g.direct) (sym (group_given word is start end))
       (direct_fits most word.start (head_of (bytes_of text word)) (map (given text prefixes) is) (items_fit most is inner)))
 
+  -- each item
   pub item_is_direct : (i : Item) → ItemIsDirect i
   item_is_direct = ind-Item ItemIsDirect (λ x y is. direct_step x)

@@ -16,10 +16,12 @@ use Rattle.case_load.proofs.Steps.{same_value, both_steps, tested}
 abbrev pub IsIn : Numbering → List ℕ → Type 0
 IsIn table name = (k : ℕ) × (number_of table.names name ≡ Some k)
 
+-- a class name or a property name is held
 abbrev pub IsHeldIn : Names → Mention → Type 0
 IsHeldIn names (mention.Class name) = IsIn names.classes name
 IsHeldIn names (mention.Property name) = IsIn names.roles name
 
+-- each of these is
 abbrev pub AllHeld : Names → List Mention → Type 0
 AllHeld names [] = ⊤
 AllHeld names (m ∷ ms) = IsHeldIn names m × AllHeld names ms
@@ -30,9 +32,11 @@ pub record IsLater (old new : Names) : Type 0 where
   pub roles : length old.roles.names ≤ length new.roles.names
   pub held : (m : Mention) → IsHeldIn old m → IsHeldIn new m
 
+-- names are later than themselves
 pub later_same : (names : Names) → IsLater names names
 later_same names = record { classes = omega arith; roles = omega arith; held = λ m h. h }
 
+-- and than what those before them are later than
 pub later_still : (a b c : Names) → IsLater a b → IsLater b c → IsLater a c
 later_still a b c one other = record {
   classes = omega (arith, one.classes, other.classes);
@@ -72,6 +76,7 @@ module _ (cited : Cited) where
   kept_in : (table : Numbering) (name other : List ℕ) → IsIn table other → IsIn (held_in table name) other
   kept_in table name other h = (h.0, cited.keeps table.names name other h.0 h.1)
 
+  -- the names with one more class name are later ones
   class_added : (names : Names) (name : List ℕ) → IsLater names (record { classes = held_in names.classes name; roles = names.roles })
   class_added names name = record {
     classes = longer names.classes.names name;
@@ -83,6 +88,7 @@ module _ (cited : Cited) where
       kept (mention.Class other) h = kept_in names.classes name other h
       kept (mention.Property other) h = h
 
+  -- and so are those with one more property name
   property_added : (names : Names) (name : List ℕ) → IsLater names (record { classes = names.classes; roles = held_in names.roles name })
   property_added names name = record {
     classes = omega arith;

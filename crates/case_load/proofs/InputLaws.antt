@@ -4,7 +4,7 @@ use Rattle.std.specs.Prelude.{slice_index}
 use Rattle.std.specs.List.{range_with_len}
 use Rattle.std.proofs.lemmas.List.{length-map, get_or_default}
 use Rattle.std.proofs.lemmas.List.FromFn.{length-range_with_len, get_or-range_with_len}
-use Rattle.std.proofs.lemmas.List.Elements.{All-nil, All-cons, All-map, Contains-get_or}
+use Rattle.std.proofs.lemmas.List.Elements.{All-nil, All-cons, All-map, Contains-get_or, All-weaker}
 use Rattle.std.proofs.lemmas.List.Sorted.{Contains-permutation}
 use Rattle.el_logic.specs.declared.types.Expr.{Expr}
 use Rattle.el_logic.specs.declared.types.Expr.TheVariants as E
@@ -21,7 +21,6 @@ use Rattle.case_file.specs.Cases as case
 use Rattle.case_load.specs.Loads.{trees_in, roles_in, rows_in, input_of}
 use Rattle.case_load.specs.Inside.Stages.{AreBothOver}
 use Rattle.case_load.specs.declared.documents.Documents.{Documents}
-use Rattle.case_load.proofs.OverNames.{all_more}
 use Rattle.concept_store.specs.Nodes.{node_in}
 
 -- the laws on rows and rankings that this rests on
@@ -39,6 +38,7 @@ class_over classes roles (E.Name number) is = is
 class_over classes roles (E.And' _ operands) is = absurd is
 class_over classes roles (E.Exists' role _ fillers) is = absurd is
 
+-- and it is a name
 class_name : (classes : ℕ) (e : Expr) → IsRowClass classes e → IsName e
 class_name classes E.Top is = tt
 class_name classes E.Bottom is = tt
@@ -71,6 +71,7 @@ axiom_over classes roles (A.Transitive role) is = absurd is
 axiom_over classes roles (A.Reflexive role) is = absurd is
 axiom_over classes roles (A.Domain role e) is = absurd is
 
+-- one inclusion of names or of properties
 axiom_form : (classes roles : ℕ) (a : Axiom) → IsRowAxiom classes roles a → case.IsRowAxiom a
 axiom_form classes roles (A.SubClass low high) is = (class_name classes low is.0, class_name classes high is.1)
 axiom_form classes roles (A.SubRole (low ∷ []) high) is = refl
@@ -84,15 +85,18 @@ axiom_form classes roles (A.Reflexive role) is = absurd is
 axiom_form classes roles (A.Domain role e) is = absurd is
 
 module _ (laws : RowLaws) (classes roles : List (List ℕ)) (row : Row) where
+  -- the axioms of a row are over the names
   row_over : AreOver (length classes) (length roles) (row_axioms classes roles row)
   row_over = record {
     few = omega (arith, laws.few classes roles row);
-    each = all_more (IsRowAxiom (length classes) (length roles)) (IsOver (length classes) (length roles)) (axiom_over (length classes) (length roles)) (row_axioms classes roles row) (laws.within classes roles row);
+    each = All-weaker (IsRowAxiom (length classes) (length roles)) (IsOver (length classes) (length roles)) (axiom_over (length classes) (length roles)) (row_axioms classes roles row) (laws.within classes roles row);
   }
 
+  -- the form of the axioms of a row
   row_form : All case.IsRowAxiom (row_axioms classes roles row)
-  row_form = all_more (IsRowAxiom (length classes) (length roles)) case.IsRowAxiom (axiom_form (length classes) (length roles)) (row_axioms classes roles row) (laws.within classes roles row)
+  row_form = All-weaker (IsRowAxiom (length classes) (length roles)) case.IsRowAxiom (axiom_form (length classes) (length roles)) (row_axioms classes roles row) (laws.within classes roles row)
 
+-- counting from 0
 from_zero : (n : ℕ) → 0 + n ≡ n
 from_zero n = omega arith
 
@@ -134,6 +138,7 @@ nodes_fit documents table order made most same few =
     let nodes = ap (λ (c : CaseView). length c.store.nodes) same in
     omega (arith, nodes, length-map (trees_in documents) (node_in (trees_in documents)), few)
 
+-- the same of roles
 pub roles_fit : (documents : Documents) (table : Table) (order : List ℕ) (made : CaseView) (most : ℕ) → made ≡ case_of (input_of documents table order) → length made.store.roles ≤ most → length (roles_in documents) ≤ most
 roles_fit documents table order made most same few =
     let roles = ap (λ (c : CaseView). length c.store.roles) same in

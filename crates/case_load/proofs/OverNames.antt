@@ -1,7 +1,7 @@
 -- Expressions and axioms over the numbers of names that are held.
 use Rattle.std.proofs.Common.{◌≡◌, ◌≤◌, ◌<◌, ℕ, List, [], ◌∷◌, length, map, All, refl, sym, ap, subst, ◌∙◌, arith}
 use Rattle.std.specs.Prelude.{⊤}
-use Rattle.std.proofs.lemmas.List.Elements.{All-nil, All-cons, All-head, All-tail}
+use Rattle.std.proofs.lemmas.List.Elements.{All-nil, All-cons, All-weaker}
 use Rattle.el_logic.specs.declared.types.Expr.{Expr}
 use Rattle.el_logic.specs.declared.types.Expr.TheVariants as el
 use Rattle.el_logic.specs.declared.types.Axiom.{Axiom}
@@ -27,10 +27,12 @@ abbrev rest_of : Expr → Tree → Tree
 rest_of (el.And' _ operands) tree = folded tree operands
 rest_of _ tree = tree
 
+-- the trees of these expressions are over the names
 abbrev AreTrees : ℕ → ℕ → List Expr → Type 0
 AreTrees classes roles [] = ⊤
 AreTrees classes roles (e ∷ es) = IsTreeOver classes roles (tree_of e) × AreTrees classes roles es
 
+-- an intersection, over the rest of its operands
 rest_is_over : (classes roles : ℕ) (operands : List Expr) (tree : Tree) → IsTreeOver classes roles tree → AreTrees classes roles operands → IsTreeOver classes roles (rest_of (el.And operands) tree)
 unfolding Rattle.el_logic.specs.declared.types.Expr.TheBlock.hidden-the_row-Expr-0 denote.Hole.Carrier.hidden
 rest_is_over classes roles [] tree first rest = first
@@ -42,6 +44,7 @@ unfolding Rattle.el_logic.specs.declared.types.Expr.TheBlock.hidden-the_row-Expr
 and_is_over classes roles [] all = tt
 and_is_over classes roles (e ∷ es) all = rest_is_over classes roles es (tree_of e) all.0 all.1
 
+-- the tree of a restriction
 exists_is : (role : ℕ) (filler : Expr) → tree_of (el.Exists role filler) ≡ some role (tree_of filler)
 unfolding Rattle.el_logic.specs.declared.types.Expr.TheBlock.hidden-the_row-Expr-1 denote.Hole.Carrier.hidden
 exists_is role filler = refl
@@ -51,6 +54,7 @@ module _ (names : Names) where
   abbrev IsTree : Expr → Type 0
   IsTree e = IsTreeOver (length names.classes.names) (length names.roles.names) (tree_of e)
 
+  -- an expression over IRIs is so, once its names are held
   abbrev IsExpr : IriExpr → Type 0
   IsExpr e = AllHeld names (mentions e) → IsTree (expr_over names e)
 
@@ -66,10 +70,12 @@ module _ (names : Names) where
   unfolding expr_over
   top_over held = subst IsTree (sym (ap (fold-IriExpr Expr (expr_step names)) (sym rolls-Top) ∙ fold-roll-IriExpr Expr (expr_step names) IriExpr-F.Top)) tt
 
+  -- owl:Nothing
   bottom_over : IsExpr expr.Bottom
   unfolding expr_over
   bottom_over held = subst IsTree (sym (ap (fold-IriExpr Expr (expr_step names)) (sym rolls-Bottom) ∙ fold-roll-IriExpr Expr (expr_step names) IriExpr-F.Bottom)) tt
 
+  -- a class name
   class_over : (iri : List ℕ) → IsExpr (expr.Class iri)
   unfolding expr_over mentions
   class_over iri held =
@@ -77,32 +83,39 @@ module _ (names : Names) where
       let there = subst (AllHeld names) said held in
       subst IsTree (sym (ap (fold-IriExpr Expr (expr_step names)) (sym (rolls-Class iri)) ∙ fold-roll-IriExpr Expr (expr_step names) (IriExpr-F.Class iri))) (number_below names.classes iri there.0)
 
+  -- the names of an intersection
   and_said : (classes : List IriExpr) → mentions (expr.And classes) ≡ all_mentions classes
   unfolding mentions
   and_said classes = ap (fold-IriExpr (List Mention) mention_step) (sym (rolls-And classes)) ∙ fold-roll-IriExpr (List Mention) mention_step (IriExpr-F.And classes)
 
+  -- an intersection over numbers
   and_given : (classes : List IriExpr) → expr_over names (expr.And classes) ≡ el.And (map (expr_over names) classes)
   unfolding expr_over
   and_given classes = ap (fold-IriExpr Expr (expr_step names)) (sym (rolls-And classes)) ∙ fold-roll-IriExpr Expr (expr_step names) (IriExpr-F.And classes)
 
+  -- the names of a restriction
   exists_said : (iri : List ℕ) (filler : IriExpr) → mentions (expr.Exists iri filler) ≡ mention.Property iri ∷ mentions filler
   unfolding mentions
   exists_said iri filler = ap (fold-IriExpr (List Mention) mention_step) (sym (rolls-Exists iri filler)) ∙ fold-roll-IriExpr (List Mention) mention_step (IriExpr-F.Exists iri filler)
 
+  -- a restriction over numbers
   exists_given : (iri : List ℕ) (filler : IriExpr) → expr_over names (expr.Exists iri filler) ≡ el.Exists (number_in names.roles iri) (expr_over names filler)
   unfolding expr_over
   exists_given iri filler = ap (fold-IriExpr Expr (expr_step names)) (sym (rolls-Exists iri filler)) ∙ fold-roll-IriExpr Expr (expr_step names) (IriExpr-F.Exists iri filler)
 
+  -- an intersection
   and_over : (ys : List ((e : IriExpr) × IsExpr e)) → IsExpr (expr.And (map (λ y. y.0) ys))
   and_over ys held =
       let is = map (λ (y : (e : IriExpr) × IsExpr e). y.0) ys in
       subst IsTree (sym (and_given is)) (and_is_over (length names.classes.names) (length names.roles.names) (map (expr_over names) is) (each_over ys (subst (AllHeld names) (and_said is) held)))
 
+  -- a restriction
   exists_over : (iri : List ℕ) (filler : IriExpr) → IsExpr filler → IsExpr (expr.Exists iri filler)
   exists_over iri filler inner held =
       let there = subst (AllHeld names) (exists_said iri filler) held in
       subst IsTree (sym (exists_given iri filler)) (subst (IsTreeOver (length names.classes.names) (length names.roles.names)) (sym (exists_is (number_in names.roles iri) (expr_over names filler))) (number_below names.roles iri there.0, inner there.1))
 
+  -- one layer of an expression
   layer_over : (y : IriExpr-F ((e : IriExpr) × IsExpr e)) → IsExpr (roll-IriExpr (map-IriExpr ((e : IriExpr) × IsExpr e) IriExpr (λ e. e.0) y))
   layer_over IriExpr-F.Top = subst IsExpr (sym rolls-Top) top_over
   layer_over IriExpr-F.Bottom = subst IsExpr (sym rolls-Bottom) bottom_over
@@ -121,16 +134,20 @@ module _ (names : Names) where
       let parts = held_parts names (mentions e) (all_mentions es) held in
       All-cons IsTree (expr_over names e) (map (expr_over names) es) (expr_is_over e parts.0) (exprs_over es parts.1)
 
+  -- a number is that of a property
   abbrev IsRole : ℕ → Type 0
   IsRole r = r < length names.roles.names
 
+  -- the numbers of properties that are held
   roles_over : (iris : List (List ℕ)) → AllHeld names (properties iris) → All IsRole (map (number_in names.roles) iris)
   roles_over [] held = All-nil IsRole
   roles_over (iri ∷ iris) held = All-cons IsRole (number_in names.roles iri) (map (number_in names.roles) iris) (number_below names.roles iri held.0) (roles_over iris held.1)
 
+  -- an expression alone
   one_tree : (e : IriExpr) → AllHeld names (mentions e) → All IsTree (expr_over names e ∷ [])
   one_tree e held = All-cons IsTree (expr_over names e) [] (expr_is_over e held) (All-nil IsTree)
 
+  -- a property alone
   one_role : (iri : List ℕ) → IsHeldIn names (mention.Property iri) → All IsRole (number_in names.roles iri ∷ [])
   one_role iri held = All-cons IsRole (number_in names.roles iri) [] (number_below names.roles iri held) (All-nil IsRole)
 
@@ -157,15 +174,10 @@ tree_over_more classes roles more more_roles c r (name k) h = omega (arith, c, h
 tree_over_more classes roles more more_roles c r (both one other) h = (tree_over_more classes roles more more_roles c r one h.0, tree_over_more classes roles more more_roles c r other h.1)
 tree_over_more classes roles more more_roles c r (some k filler) h = (omega (arith, r, h.0), tree_over_more classes roles more more_roles c r filler h.1)
 
--- what holds of each still does, if it makes another hold
-pub all_more : {X : Type 0} (P Q : X → Type 0) → ((x : X) → P x → Q x) → (xs : List X) → All P xs → All Q xs
-all_more P Q more [] h = All-nil Q
-all_more P Q more (x ∷ xs) h = All-cons Q x xs (more x (All-head P x xs h)) (all_more P Q more xs (All-tail P x xs h))
-
 -- so is an axiom
 pub axiom_over_more : (classes roles more more_roles : ℕ) → classes ≤ more → roles ≤ more_roles → (a : Axiom) → IsOver classes roles a → IsOver more more_roles a
 axiom_over_more classes roles more more_roles c r a h = record {
-  names = all_more (λ e. IsTreeOver classes roles (tree_of e)) (λ e. IsTreeOver more more_roles (tree_of e)) (λ e. tree_over_more classes roles more more_roles c r (tree_of e)) (expressions a) h.names;
-  properties = all_more (λ k. k < roles) (λ k. k < more_roles) (λ k l. omega (arith, r, l)) (over.properties a) h.properties;
+  names = All-weaker (λ e. IsTreeOver classes roles (tree_of e)) (λ e. IsTreeOver more more_roles (tree_of e)) (λ e. tree_over_more classes roles more more_roles c r (tree_of e)) (expressions a) h.names;
+  properties = All-weaker (λ k. k < roles) (λ k. k < more_roles) (λ k l. omega (arith, r, l)) (over.properties a) h.properties;
   chain = h.chain;
 }

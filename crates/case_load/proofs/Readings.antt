@@ -2,7 +2,7 @@
 use Rattle.std.proofs.Common.{◌≡◌, ◌≤◌, ◌<◌, ℕ, ◌+◌, ◌-◌, ◌^◌, Bool, true, false, cond, List, [], ◌∷◌, length, map, All, sym, ap, subst, ◌∙◌, arith, length-append}
 use Rattle.std.specs.Prelude.{Some, None, Result, Ok, Err, nat_eq, ⊤}
 use Rattle.std.proofs.lemmas.List.{length-map}
-use Rattle.std.proofs.lemmas.List.Elements.{All-nil, All-cons, All-append}
+use Rattle.std.proofs.lemmas.List.Elements.{All-nil, All-cons, All-append, All-weaker}
 use Rattle.el_logic.specs.declared.types.Axiom.{Axiom}
 use Rattle.concept_store.specs.Roles.{IsOver, AreOver, HasChain}
 use Rattle.ofn_term.specs.declared.item.Item.{Item, roll-Item}
@@ -31,7 +31,7 @@ use Rattle.ofn_axiom.specs.Documents.{declared_with, is_prefix, is_ontology, Fou
 use Rattle.case_load.proofs.Cited.{Cited}
 use Rattle.case_load.proofs.Steps.{same_value, no_value, both_steps}
 use Rattle.case_load.proofs.HeldNames.{AllHeld, IsLater, taken_all}
-use Rattle.case_load.proofs.OverNames.{axiom_is_over, axiom_over_more, all_more}
+use Rattle.case_load.proofs.OverNames.{axiom_is_over, axiom_over_more}
 use Rattle.case_load.proofs.Widths.{width, width_of, few_tokens, few_items, inner_width, width_parts}
 use Rattle.case_load.proofs.Chains.{Fits, DirectFits, IfRead, atom_given, bare_given, group_given, item_is_direct}
 
@@ -40,6 +40,7 @@ record IsSound (count : ℕ) (state : State) : Type 0 where
   few : length state.0.axioms ≤ count
   over : All (IsOver (length state.1.classes.names) (length state.1.roles.names)) state.0.axioms
 
+-- what 32 bits count
 abbrev short : ℕ
 short = 2 ^ 31
 
@@ -57,7 +58,7 @@ chain_over most names (ax.Domain r c) small fits = tt
 -- the axioms so far, over later names
 over_later : (old new : Names) (axioms : List Axiom) → IsLater old new → All (IsOver (length old.classes.names) (length old.roles.names)) axioms → All (IsOver (length new.classes.names) (length new.roles.names)) axioms
 over_later old new axioms later =
-    all_more (IsOver (length old.classes.names) (length old.roles.names)) (IsOver (length new.classes.names) (length new.roles.names))
+    All-weaker (IsOver (length old.classes.names) (length old.roles.names)) (IsOver (length new.classes.names) (length new.roles.names))
     (axiom_over_more (length old.classes.names) (length old.roles.names) (length new.classes.names) (length new.roles.names) later.classes later.roles) axioms
 
 -- with what a direct item says
@@ -109,6 +110,7 @@ module _ (cited : Cited) (text : List ℕ) where
   taken_sound most count ElPart (Err fault.TooManyClasses) state next small fits e sound = absurd (no_value fault.TooManyClasses next e)
   taken_sound most count ElPart (Err fault.TooManyProperties) state next small fits e sound = absurd (no_value fault.TooManyProperties next e)
 
+  -- direct items, one after another
   directs_sound : (most count : ℕ) (mode : Mode) (gs : List Given) (state next : State) → most < short → AreDirect most gs → directs text mode gs state ≡ Ok next → IsSound count state → IsSound (count + length gs) next
   directs_sound most count mode [] state next small fits e sound =
       let same : count + 0 ≡ count = omega arith in
@@ -124,6 +126,7 @@ module _ (cited : Cited) (text : List ℕ) where
     few : length rest ≤ length gs
     fits : AreDirect most rest
 
+  -- an IRI, or the first item that is none
   after_one : (most at : ℕ) (name : Named) (g : Given) (gs rest : List Given) (later : Result (List Given) OffsetFault) → AreDirect most (g ∷ gs) → (later ≡ Ok rest → IsSome most gs rest) →
       after_iri at name (g ∷ gs) later ≡ Ok rest → IsSome most (g ∷ gs) rest
   after_one most at (named.Iri iri) g gs rest later fits more e = let some = more e in record { few = omega (arith, some.few); fits = some.fits }
@@ -132,6 +135,7 @@ module _ (cited : Cited) (text : List ℕ) where
       let same = same_value (g ∷ gs) rest e in
       record { few = let l = ap length same in omega (arith, l); fits = subst (AreDirect most) same fits }
 
+  -- several IRIs
   after_some : (most n : ℕ) (gs rest : List Given) → AreDirect most gs → after_iris n gs ≡ Ok rest → IsSome most gs rest
   after_some most n [] rest fits e = let same = same_value [] rest e in record { few = let l = ap length same in omega (arith, l); fits = subst (AreDirect most) same fits }
   after_some most n (g ∷ gs) rest fits e = by (after_some most (n - 1) gs rest fits.1) (nat_eq n 0) e
@@ -155,9 +159,11 @@ module _ (cited : Cited) (text : List ℕ) where
         let parts = width_parts i is in
         (item_is_direct cited text prefixes i most (omega (arith, parts, wide)), all_direct most is (omega (arith, parts, wide)))
 
+    -- what an item says as an ontology is sound
     abbrev IsOntology : Item → Type 0
     IsOntology i = (most : ℕ) (mode : Mode) (state next : State) → most < short → width i ≤ most → IsSound 0 state → (given text prefixes i).ontology mode state ≡ Ok next → IsSound most next
 
+    -- one layer of an item
     ontology_step : (x : Item-F Item) → IsOntology (roll-Item x)
     ontology_step (Item-F.Atom token) = subst IsOntology (sym (rolls-Atom token)) (λ most mode state next small wide sound e.
         absurd (no_value (fault.Head token.start) next (sym (ap (λ (g : Given). g.ontology mode state) (atom_given cited text prefixes token)) ∙ e)))
@@ -170,6 +176,7 @@ module _ (cited : Cited) (text : List ℕ) where
         ontology_sound most mode gs state next small few (all_direct most is inner) sound
         (sym (ap (λ (g : Given). g.ontology mode state) (group_given cited text prefixes word is start end)) ∙ e))
 
+    -- each item
     ontology_is : (i : Item) → IsOntology i
     ontology_is = ind-Item IsOntology (λ x y is. ontology_step x)
 
@@ -190,10 +197,12 @@ module _ (cited : Cited) (text : List ℕ) where
           omega (arith, later, parts)
       by deeper parts false h = here parts (is_ontology (given text prefixes i).head) h
 
+  -- what follows the ontology adds nothing
   ended_same : (prefixes : Prefixes) (items : List Item) (state next : State) → ended text prefixes items state ≡ Ok next → state ≡ next
   ended_same prefixes [] state next e = same_value state next e
   ended_same prefixes (i ∷ is) state next e = absurd (no_value (fault.Head (given text prefixes i).at) next e)
 
+  -- a whole document
   document_sound : (most : ℕ) (mode : Mode) (items : List Item) (names : Names) (next : State) → most < short → width_of items ≤ most → document_of text mode items (empty, names) ≡ Ok next → IsSound most next
   document_sound most mode items names next small wide e =
       let start : IsSound 0 (empty, names) = record { few = omega arith; over = All-nil (IsOver (length names.classes.names) (length names.roles.names)) } in

@@ -4,13 +4,16 @@ use Rattle.std.specs.Prelude.{Result, Ok, Err, is_ok}
 use Rattle.ofn_axiom.specs.declared.fault.OffsetFault.{OffsetFault}
 use Rattle.ofn_axiom.specs.Steps.{◌>>=◌}
 
+-- the value, or another
 abbrev value_or : {A : Type 0} → A → Result A OffsetFault → A
 value_or other (Ok x) = x
 value_or other (Err f) = other
 
+-- a value is read
 abbrev read : {A : Type 0} → A → Result A OffsetFault
 read x = Ok x
 
+-- a fault stands
 abbrev failed : {A : Type 0} → OffsetFault → Result A OffsetFault
 failed f = Err f
 

@@ -23,5 +23,6 @@ table_stops most map (table.Curie row column) is = is
 table_stops most map (table.Confidence row) is = is
 table_stops most map table.OutOfMemory is = tt
 
+-- the same, in the words of the code
 pub table_stop : (most : ℕ) (map : List ℕ) (fault : TableFault) (found : LoadFault) → found ≡ of_table fault → OrOutOfMemory table_ran_out (IsFirstTableFault most map) fault → OrOutOfMemory load_ran_out (IsTableStop most map) found
 table_stop most map fault found same is = subst (OrOutOfMemory load_ran_out (IsTableStop most map)) (sym same) (table_stops most map fault is)

@@ -20,6 +20,7 @@ few_from text (t ∷ ts) from within later each order =
     let rest = few_from text ts t.end own.within order.0 (All-tail (IsTokenOf text) t ts each) order.1 in
     omega (arith, rest, own.some, later.0)
 
+-- tokens that stand in order
 few_in : (text : List ℕ) (tokens : List Token) → All (IsTokenOf text) tokens → StandInOrder tokens → length tokens ≤ length text
 few_in text [] each order = omega arith
 few_in text (t ∷ ts) each order =
@@ -31,6 +32,7 @@ few_in text (t ∷ ts) each order =
 abbrev pub width_of : List Item → ℕ
 width_of items = length (tokens_of items)
 
+-- how many an item has
 abbrev pub width : Item → ℕ
 width i = width_of (i ∷ [])
 
@@ -38,6 +40,7 @@ width i = width_of (i ∷ [])
 pub few_tokens : (cited : Cited) (text : List ℕ) (most : ℕ) (items : List Item) → HasItems text most items → width_of items ≤ length text
 few_tokens cited text most items has = few_in text (tokens_of items) (cited.each text most items has) (cited.in_order text most items has)
 
+-- as many as there are pieces
 width_is : (items : List Item) → width_of items ≡ length (pieces items)
 width_is items = length-map (pieces items) token_of
 
@@ -49,6 +52,7 @@ pieces_are i items =
     let all = length-append (item_pieces i) (pieces items) in
     omega (arith, one, all)
 
+-- the tokens of an item, and of the rest
 pub width_parts : (i : Item) (items : List Item) → width_of (i ∷ items) ≡ width i + width_of items
 width_parts i items = omega (arith, width_is (i ∷ items), width_is (i ∷ []), width_is items, pieces_are i items)
 
@@ -60,6 +64,7 @@ some_width cited i = cited.few (i ∷ [])
 pub few_items : (cited : Cited) (items : List Item) → length items ≤ width_of items
 few_items cited items = cited.few items
 
+-- a group has the pieces between its brackets
 opened : (word : Option Token) (inner : List Piece) (start end : ℕ) → length inner ≤ length (group_pieces word inner start end)
 opened None inner start end = omega (arith, length-append inner (closing end ∷ []))
 opened (Some word) inner start end = omega (arith, length-append inner (closing end ∷ []))

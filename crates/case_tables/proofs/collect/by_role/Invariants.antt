@@ -1,0 +1,6 @@
+use Rattle.std.proofs.Common.{◌≡◌, take}
+use Rattle.case_tables.specs.Entries.{by_role}
+use Rattle.case_tables.proofs.collect.by_role.Given as goal
+
+abbrev pub invariant-loop-pair : goal.invariant-loop-pair
+invariant-loop-pair l = l.entries.items ≡ by_role (take l.pair-index l.restrictions)
