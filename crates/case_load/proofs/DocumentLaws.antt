@@ -19,18 +19,18 @@ abbrev pub ReadingsAreOver : Type 0
 ReadingsAreOver = (text : List ℕ) (mode : Mode) (depth : ℕ) (old new : Names) (document : Document) → length text < 2 ^ 31 → IsReading text mode depth old new document →
     AreOver (length new.classes.names) (length new.roles.names) document.axioms
 
--- a text without its mark is no longer
-no_longer : (text : List ℕ) → length (without_mark text) ≤ length text
-no_longer text = by (bytes_eq (take 3 text) byte_order_mark)
+-- a text that is short is so without its mark
+short_unmarked : (text : List ℕ) → length text < 2 ^ 31 → length (without_mark text) < 2 ^ 31
+short_unmarked text short = by (bytes_eq (take 3 text) byte_order_mark)
   where
-    by : (b : Bool) → length (unwrap_or (cond b (Some (drop 3 text)) None) text) ≤ length text
-    by true = omega (arith, length-drop 3 text)
-    by false = omega arith
+    by : (b : Bool) → length (unwrap_or (cond b (Some (drop 3 text)) None) text) < 2 ^ 31
+    by true = omega (arith, length-drop 3 text, short)
+    by false = short
 
 -- a text, whether it has a mark or not
 pub document_over : ReadingsAreOver → (text : List ℕ) (mode : Mode) (depth : ℕ) (old new : Names) (document : Document) → length text < 2 ^ 31 → IsReading (without_mark text) mode depth old new document →
     AreOver (length new.classes.names) (length new.roles.names) document.axioms
-document_over law text mode depth old new document short is = law (without_mark text) mode depth old new document (omega (arith, no_longer text, short)) is
+document_over law text mode depth old new document short is = law (without_mark text) mode depth old new document (short_unmarked text short) is
 
 -- a later table has no fewer names
 more_names : (old new : Numbering) → IsTableBefore old new → length old.names ≤ length new.names
