@@ -68,7 +68,8 @@ led_to (role ∷ rest) part into = part
 abbrev pub joins_along : Source → ℕ → List ℕ → ℕ → ℕ → List (ℕ × Join)
 joins_along source front [] part into = []
 joins_along source front (next ∷ rest) part into =
-    (front, join source front next (led_to rest part into)) ∷ joins_along source part rest (part + 1) into
+    (front, join source front next (led_to rest part into))
+    ∷ joins_along source part rest (part + 1) into
 
 -- the joins, by their first role
 abbrev pub joins_said : Source → NodeAxiom → List (ℕ × Join)

@@ -1,4 +1,5 @@
 pub mod Keyed
 pub mod Entries
 pub mod Tables
+pub mod Named
 pub mod Inside

@@ -33,7 +33,8 @@ said_in said case = flat_map (λ named. said named.0 named.1) (named_axioms case
 
 -- the entries of a table that is over nodes, with their keys
 abbrev pub held_in : {T : Type 0} → (ℕ → Node → List (ℕ × T)) → CaseView → List (ℕ × T)
-held_in held case = flat_map (λ node. held node.0 node.1) (numbered_from (λ n. n) 0 case.store.nodes)
+held_in held case =
+    flat_map (λ node. held node.0 node.1) (numbered_from (λ n. n) 0 case.store.nodes)
 
 -- the lists of each table, by key
 pub record TableLists : Type 0 where
@@ -62,5 +63,6 @@ pub record AreTablesOf (case : CaseView) (tables : TableLists) : Type 0 where
   pub joins_from : HasEntries tables.joins_from (said_in joins_said case)
   pub joins_by_second : HasEntries tables.joins_by_second (by_second (said_in joins_said case))
   pub domains : HasEntries tables.domains (said_in domains_said case)
-  pub restrictions_over : HasEntries tables.restrictions_over (by_role (held_in restrictions_held case))
+  pub restrictions_over :
+      HasEntries tables.restrictions_over (by_role (held_in restrictions_held case))
   pub reflexive : tables.reflexive ≡ said_in reflexive_said case
