@@ -19,6 +19,7 @@ pub struct Case {
     pub(crate) order: Numbers,
     pub(crate) over: NodeAxiomLists,
     pub(crate) classes: u32,
+    pub(crate) properties: u32,
     pub(crate) excused: Numbers,
 }
 
@@ -39,6 +40,7 @@ impl Model for Case {
       order = c.order;
       over = c.over;
       classes = c.classes;
+      properties = c.properties;
       excused = c.excused;
     } };
 
@@ -73,6 +75,13 @@ impl Case {
         ensures { result ≡ self.now.classes }
     {
         self.classes
+    }
+
+    /// How many property names there are.
+    pub fn properties(&self) -> u32
+        ensures { result ≡ self.now.properties }
+    {
+        self.properties
     }
 
     /// How many rows there are.
@@ -123,6 +132,7 @@ impl Case {
             order,
             over,
             classes,
+            properties,
             excused: _,
         } = self;
         Case {
@@ -133,6 +143,7 @@ impl Case {
             order,
             over,
             classes,
+            properties,
             excused: nodes,
         }
     }
