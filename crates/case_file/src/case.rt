@@ -1,7 +1,7 @@
 //! A case.
 
 ghost use Rattle.std.specs.Prelude.{◌≡◌, ◌<◌, Some, length, slice_get, slice_index, slice_index_or, []};
-ghost use Rattle.case_file.specs.Cases.{row_at, IsExcuse};
+ghost use Rattle.case_file.specs.Cases.{row_at, IsCase, IsExcuse};
 
 use crate::{AxiomLists, NodeAxiomLists};
 use concept_store::{NodeAxiom, Store};
@@ -49,9 +49,11 @@ impl Model for Case {
 }
 
 impl Case {
-    /// The nodes and roles of both ontologies, and their axioms over these.
+    /// The nodes and roles of both ontologies, and their axioms over these. That the case was built
+    /// is known from its type; this call says so.
     pub fn store(&self) -> &Store
-        ensures { result.now ≡ self.now.store }
+        ensures store { result.now ≡ self.now.store }
+        ensures case { IsCase self.now }
     {
         &self.store
     }
