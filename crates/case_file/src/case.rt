@@ -24,8 +24,7 @@ pub struct Case {
 }
 
 impl Model for Case {
-    ghost use Rattle.std.specs.Prelude.{◌≡◌, ◌^◌, ◌<◌, length, All};
-    ghost use Rattle.case_file.specs.Cases.{CaseView};
+    ghost use Rattle.case_file.specs.Cases.{CaseView, IsCase};
     ghost use Rattle.case_file.specs.Inside.Codes.{case_code};
 
     ghost Value = { CaseView };
@@ -44,8 +43,17 @@ impl Model for Case {
       excused = c.excused;
     } };
 
-    ghost invariant = { λ c. (length c.order < 2 ^ 31) × (length c.over ≡ length c.order)
-        × All (λ index. index < length c.rows) c.order };
+    ghost invariant = { λ c. IsCase (record {
+      store = c.store;
+      left = c.left;
+      right = c.right;
+      rows = c.rows;
+      order = c.order;
+      over = c.over;
+      classes = c.classes;
+      properties = c.properties;
+      excused = c.excused;
+    }) };
 }
 
 impl Case {

@@ -13,6 +13,10 @@ ghost use Rattle.el_rules.specs.Truth.{IsModelOf};
 ghost use Rattle.case_file.specs.Cases.{CaseView, IsCase, IsMustHave, row_at, theory_of};
 ghost use Rattle.case_file.specs.Incoherence.{axioms_for, IsIncoherentFor};
 
+use concept_store::{
+    every_interpretation_has_a_reading, nodes_stand_in_order, stores_mean_the_same,
+};
+
 /// The nodes of a case are as the rules need them, a must-have node is one of them, and each chain
 /// of its axioms has a property.
 pub fn cases_have_nodes()
@@ -21,7 +25,9 @@ pub fn cases_have_nodes()
         → node < length case.store.nodes }
     ensures chains { (case : CaseView) (part : Part) (ranks : List ℕ) (said : NodeAxiom)
         → IsCase case → IsStated (theory_of case) part ranks said → HasRole said }
-{}
+{
+    nodes_stand_in_order();
+}
 
 /// The axioms of each row mean the same over nodes.
 pub fn rows_mean_the_same()
@@ -39,7 +45,11 @@ pub fn models_have_readings()
         → IsInterp case.classes case.properties i → All (Holds i) (axioms_for case part ranks)
         → (m : Reading) × IsReadingOf case.store.nodes case.properties i m
         × IsModelOf case.store.nodes (IsStated (theory_of case) part ranks) m }
-{}
+{
+    every_interpretation_has_a_reading();
+    stores_mean_the_same();
+    nodes_stand_in_order();
+}
 
 /// A case that excuses no class is incoherent exactly where its axioms are.
 pub fn excusing_none_is_incoherence()
