@@ -15,7 +15,7 @@ use Rattle.concept_store.specs.Roles.{Numbered, HasChain, IsOver, AreOver, store
 use Rattle.concept_store.specs.Order.{AreInOrder}
 use Rattle.fact_table.specs.declared.types.Source.{Source}
 use Rattle.el_rules.specs.Closing.{AreNodes, HasRole}
-use Rattle.el_rules.specs.Theories.{IsSourceOf, IsNamed, IsStated}
+use Rattle.el_rules.specs.Theories.{IsNamed, IsStated}
 use Rattle.case_file.specs.declared.types.CaseInput.{CaseInput}
 use Rattle.case_file.specs.Cases.{CaseView, IsCaseInput, case_of, IsCase, IsExcuse, IsMustHave, IsRowAxiom, row_at, row_over, rows_over, theory_of}
 use Rattle.case_file.proofs.ListLaws.{row_has, over_of_row}

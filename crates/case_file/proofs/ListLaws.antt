@@ -1,12 +1,11 @@
 -- Parts of lists, and the axioms of ranks.
-use Rattle.std.proofs.Common.{◌≡◌, ℕ, zero, suc, ◌<◌, List, [], ◌∷◌, ◌++◌, map, length, All, Contains, Some, slice_get, refl, sym, ap, subst, ⊎_elim, arith}
+use Rattle.std.proofs.Common.{◌≡◌, ℕ, zero, suc, List, [], ◌∷◌, ◌++◌, map, length, All, Contains, Some, slice_get, refl, sym, subst, ⊎_elim, arith}
 use Rattle.std.specs.Prelude.{slice_index_or, flat_map}
 use Rattle.std.proofs.Math.ListN.{get_or-eq_default}
 use Rattle.std.proofs.lemmas.Bool.{cases_lt}
 use Rattle.std.proofs.lemmas.Option.{slice_get_within, get_or_from_slice_get}
-use Rattle.std.proofs.lemmas.List.Elements.{All-nil, All-append, All-head, All-tail, All-get_or, All-weaker, All-contains, All-contains_itself, Contains-append_left, Contains-append_right}
+use Rattle.std.proofs.lemmas.List.Elements.{All-nil, All-append, All-get_or, All-weaker, All-contains, All-contains_itself, Contains-append_left, Contains-append_right}
 use Rattle.el_logic.specs.declared.types.Axiom.{Axiom}
-use Rattle.concept_store.specs.declared.types.NodeAxiom.{NodeAxiom}
 use Rattle.case_file.specs.Cases.{row_at, row_over, rows_over}
 
 -- what holds of each element holds of the one at a place

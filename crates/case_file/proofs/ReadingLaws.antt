@@ -1,5 +1,5 @@
 -- The axioms of a case hold in an interpretation where those over nodes hold in its readings.
-use Rattle.std.proofs.Common.{◌≡◌, ℕ, ◌<◌, List, [], ◌∷◌, ◌++◌, map, length, All, Contains, Some, slice_get, sym, ap, subst, arith}
+use Rattle.std.proofs.Common.{◌≡◌, ℕ, List, [], ◌∷◌, map, All, Contains, Some, slice_get, sym, ap, subst, arith}
 use Rattle.std.specs.Prelude.{slice_index_or}
 use Rattle.std.proofs.lemmas.List.Elements.{All-nil, All-head, All-tail, All-cons, All-weaker}
 use Rattle.el_logic.specs.declared.types.Interp.{Interp}
@@ -11,7 +11,6 @@ use Rattle.el_logic.specs.Incoherent.{axioms_of_part}
 use Rattle.concept_store.specs.declared.types.NodeAxiom.{NodeAxiom}
 use Rattle.concept_store.specs.Roles.{Numbered, IsOver, AreOver, store_of}
 use Rattle.concept_store.specs.Reading.{Reading, IsReadingOf, MeansTheSameIn, HoldsIn, ReadsParts}
-use Rattle.concept_store.specs.Order.{AreInOrder}
 use Rattle.fact_table.specs.declared.types.Source.{Source}
 use Rattle.el_rules.specs.Theories.{IsSourceOf, IsNamed, IsStated}
 use Rattle.el_rules.specs.Truth.{IsModelOf}
@@ -88,9 +87,10 @@ module _ (laws : StoreLaws) (case : CaseView) (is : IsCase case) (part : Part) (
   rank_right rank there k said at =
       let row : ℕ → List Axiom = λ r. slice_index_or (map (row_at case.rows) case.order) r [] in
       let held = all_of (Holds i) row ranks rank there (all_second (Holds i) (axioms_of_part case.left case.right part) (axioms_of_ranks case ranks) holds) in
-      let parts = subst (All (ReadsParts reading.0)) (sym (row_is case is rank)) (rows_parts reading.0 (row rank) (row_axioms case is rank)) in
-      (all_at (HoldsIn reading.0) (slice_index_or case.over rank []) k said ((rank_means case is rank i reading.0 interp reading.1.0).0 held) at,
-      all_at (ReadsParts reading.0) (slice_index_or case.over rank []) k said parts at)
+      let parts = subst (All (ReadsParts reading.0)) (sym (row_is case is rank)) (rows_parts reading.0 (row rank) (row_axioms case is rank)) in (
+        all_at (HoldsIn reading.0) (slice_index_or case.over rank []) k said ((rank_means case is rank i reading.0 interp reading.1.0).0 held) at,
+        all_at (ReadsParts reading.0) (slice_index_or case.over rank []) k said parts at,
+      )
 
   -- the axioms of the part hold
   part_holds : All (Holds i) (axioms_of_part case.left case.right part)

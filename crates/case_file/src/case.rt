@@ -96,7 +96,8 @@ impl Case {
 
     /// How many rows there are.
     pub fn ranks(&self) -> u32
-        ensures { result ≡ length self.now.order }
+        ensures ranks { result ≡ length self.now.order }
+        ensures over { length self.now.over ≡ length self.now.order }
     {
         self.order.len() as u32
     }

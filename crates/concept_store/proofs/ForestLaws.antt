@@ -166,7 +166,7 @@ module _ (classes : ℕ) (trees : List Tree) (forest : IsForest classes trees) (
     before = λ n other at. ⊎_elim
         (λ there. before_kept trees (tree ∷ []) n other (omega (arith, slice_get_within trees n other there)) (forest.before n other there))
         (λ last. subst (HasPartsBefore (trees ++ tree ∷ []) n) last.1
-            (subst (λ m. HasPartsBefore (trees ++ tree ∷ []) m tree) (sym last.0) (before_kept trees (tree ∷ []) (length trees) tree (omega arith) parts)))
+        (subst (λ m. HasPartsBefore (trees ++ tree ∷ []) m tree) (sym last.0) (before_kept trees (tree ∷ []) (length trees) tree (omega arith) parts)))
         (at_or_last trees tree n other at);
     once = λ n other at. ⊎_elim
         (λ there. place_kept other trees (tree ∷ []) (has_at trees n other there) ∙ forest.once n other there)

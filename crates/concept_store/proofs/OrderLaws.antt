@@ -1,11 +1,11 @@
 -- The nodes of a store stand in order.
-use Rattle.std.proofs.Common.{◌≡◌, ℕ, ◌+◌, ◌<◌, List, Some, slice_get, refl, sym, ap, subst, ◌∙◌, true, rules}
+use Rattle.std.proofs.Common.{◌≡◌, ℕ, ◌+◌, ◌<◌, List, Some, slice_get, sym, ap, subst, ◌∙◌, true, rules}
 use Rattle.std.specs.Option.{option_map}
 use Rattle.std.proofs.lemmas.Option.{slice_get-map}
 use Rattle.el_logic.specs.declared.types.Axiom.{Axiom}
 use Rattle.concept_store.specs.declared.types.Node.{Node}
-use Rattle.concept_store.specs.declared.types.Node.TheVariants.{Top, Bottom, Class, And, Exists}
-use Rattle.concept_store.specs.Trees.{Tree, thing, nothing, name, both, some, same_tree, place_of}
+use Rattle.concept_store.specs.declared.types.Node.TheVariants.{And, Exists}
+use Rattle.concept_store.specs.Trees.{Tree, thing, nothing, name, both, some, place_of}
 use Rattle.concept_store.specs.Nodes.{IsNode, same_node, trees_of, node_in, nodes_over}
 use Rattle.concept_store.specs.Roles.{AreOver}
 use Rattle.concept_store.specs.Order.{AreInOrder}

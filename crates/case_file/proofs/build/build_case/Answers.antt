@@ -1,4 +1,4 @@
-use Rattle.std.proofs.Common.{◌≡◌, ◌∙◌, List, All, ap, sym, subst}
+use Rattle.std.proofs.Common.{◌≡◌, ◌∙◌, List, All, ap, sym, subst, arith}
 use Rattle.el_logic.specs.declared.types.Axiom.{Axiom}
 use Rattle.case_file.specs.Cases.{rows_over, IsCase}
 use Rattle.case_file.specs.Inside.ShortRows.{IsShortRow}
