@@ -1,0 +1,6 @@
+//! Derivations: lists of steps, each with the rule and the earlier steps that give its fact.
+#![tactic(auto)]
+
+mod types;
+
+pub use types::{BadStep, Derivation, Step};
