@@ -2,3 +2,4 @@
 pub mod Answers
 pub mod Premises
 pub mod Chains
+pub mod Needed

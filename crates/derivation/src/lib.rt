@@ -1,9 +1,11 @@
 //! Derivations: lists of steps, each with the rule and the earlier steps that give its fact.
 #![tactic(auto)]
 
+mod checking;
 mod premises;
 mod rules;
 mod saying;
 mod types;
 
+pub use checking::check_derivation;
 pub use types::{BadStep, Derivation, Step};

@@ -3,7 +3,7 @@
 ghost use Rattle.std.specs.Prelude.{◌≡◌, ◌≢◌, ◌<◌, MatchOption, ℕ, IsTrue, ◌↔◌, Some, length, Contains};
 ghost use Rattle.std.specs.Option.{option_copied};
 ghost use Rattle.fact_table.specs.declared.types.Fact.TheVariants.{Sub, Link};
-ghost use Rattle.el_rules.specs.Theories.{IsNumbered, IsNamedBy};
+ghost use Rattle.el_rules.specs.Theories.{IsNumbered, IsSourceOf, IsNamedBy};
 ghost use Rattle.case_file.specs.Cases.{theory_of};
 ghost use Rattle.derivation.specs.Steps.{IsStepBefore, IsAscending, AreRanks};
 ghost use Rattle.derivation.specs.Inside.Answers.{IsTheOne};
@@ -85,6 +85,19 @@ fn has_rank(ranks: &[u32], rank: u32) -> bool
     ranks.binary_search(&rank).is_ok()
 }
 
+// The source is of the part or of the ranks.
+fn is_source(part: Part, ranks: &[u32], source: Source) -> bool
+    requires { IsAscending ranks.now }
+    ensures { IsTrue result ↔ IsSourceOf part ranks.now source }
+{
+    match source {
+        Source::Left(_) => matches!(part, Part::Left | Part::Both),
+        Source::Right(_) => matches!(part, Part::Right | Part::Both),
+        Source::Row { rank, .. } => has_rank(ranks, rank),
+        Source::Nothing => false,
+    }
+}
+
 /// The axiom that a source names, if it is of the part or of a row with one of the ranks.
 pub fn named_axiom<'a>(
     case: &'a Case,
@@ -96,12 +109,13 @@ pub fn named_axiom<'a>(
     ensures { IsTheOne (option_copied result)
         (IsNamedBy (theory_of case.now) part ranks.now source) }
 {
+    if !is_source(part, ranks, source) {
+        return None;
+    }
     match source {
-        Source::Left(number) if part != Part::Right => numbered(case.store().left(), number),
-        Source::Right(number) if part != Part::Left => numbered(case.store().right(), number),
-        Source::Row { rank, number } if has_rank(ranks, rank) => {
-            numbered(case.over_of(rank), number)
-        }
-        _ => None,
+        Source::Left(number) => numbered(case.store().left(), number),
+        Source::Right(number) => numbered(case.store().right(), number),
+        Source::Row { rank, number } => numbered(case.over_of(rank), number),
+        Source::Nothing => None,
     }
 }
