@@ -1,3 +1,5 @@
 pub mod RankLaws
 pub mod MoreGiven
 pub mod StepLaws
+pub mod Gathering
+pub mod Traced

@@ -1,9 +1,10 @@
 -- Searching among ranks that ascend, and the axiom that a source names.
-use Rattle.std.proofs.Common.{◌≡◌, ◌∙◌, ◌<◌, ◌≤◌, ◌↔◌, ℕ, Bool, true, false, IsTrue, List, Option, Result, Ok, Err, MatchResult, Contains, length, get_or, refl, sym, subst, ⊎_elim, arith}
+use Rattle.std.proofs.Common.{◌≡◌, ◌∙◌, ◌<◌, ◌≤◌, ◌↔◌, ℕ, Bool, true, false, IsTrue, List, Option, Result, Ok, Err, MatchResult, Contains, length, get_or, slice_get, Some, refl, ap, sym, subst, ⊎_elim, arith}
 use Rattle.std.proofs.Math.Nat.{eq-or-lt_of_le}
 use Rattle.std.proofs.lemmas.Bool.{cases_lt}
 use Rattle.std.proofs.lemmas.List.Sorted.{searched}
 use Rattle.std.proofs.lemmas.List.{get_or_default}
+use Rattle.std.proofs.lemmas.Option.{slice_get-get_or}
 use Rattle.std.specs.List.Sorted.{IsBinarySearchResult}
 use Rattle.std.specs.Ordering.{nat_cmp}
 use Rattle.std.specs.Result.{is_ok}
@@ -37,6 +38,13 @@ found xs x (Err i) result up = λ held.
     let apart = searched xs x (Err i) result (not_falling xs up) in
     let same : get_or xs held.0 0 ≡ x = get_or_default xs held.0 0 x held.1 ∙ held.2 in
     absurd (apart_from (get_or xs held.0 0) x held.0 i same (λ before. apart.1 held.0 before) (λ past. apart.2 held.0 past held.1))
+
+-- the place that a search finds has the number
+pub found_at : (xs : List ℕ) (x : ℕ) (r : Result ℕ ℕ) → IsBinarySearchResult (λ y. nat_cmp y x) xs r → IsAscending xs
+    → MatchResult r (λ k. slice_get xs k ≡ Some x) (λ _. Unit {0})
+found_at xs x (Ok i) result up =
+    let here = searched xs x (Ok i) result (not_falling xs up) in slice_get-get_or xs i 0 here.0 ∙ ap Some here.1
+found_at xs x (Err i) result up = tt
 
 -- so a test of what it found tells whether it is there
 pub found_test : (xs : List ℕ) (x : ℕ) (r : Result ℕ ℕ) → IsBinarySearchResult (λ y. nat_cmp y x) xs r → IsAscending xs → IsTrue (is_ok r) ↔ Contains xs x

@@ -33,12 +33,15 @@ pub record TellsItem (places : List ℕ) (item : Proved) (step : Step) : Type 0 
   pub source_is : step.source
       ≡ (if names_axiom item.reason.rule then item.reason.source else Source.Nothing)
 
+-- the step says what the item at the k-th place says
+abbrev pub TellsPlace : List Proved → List ℕ → ℕ → Step → Type 0
+TellsPlace items places k step = (place : ℕ) × (item : Proved) × (slice_get places k ≡ Some place)
+    × (slice_get items place ≡ Some item) × TellsItem places item step
+
 -- the steps say what the items at some places say, in their order, the goal's last
 pub record IsTraceOf (items : List Proved) (goal : ℕ) (steps : List Step) : Type 0 where
   pub places : List ℕ
   pub ascending : IsAscending places
   pub count : length places ≡ length steps
   pub last : (k : ℕ) × (length places ≡ k + 1) × (slice_get places k ≡ Some goal)
-  pub each : (k : ℕ) (step : Step) → slice_get steps k ≡ Some step
-      → (place : ℕ) × (item : Proved) × (slice_get places k ≡ Some place)
-      × (slice_get items place ≡ Some item) × TellsItem places item step
+  pub each : (k : ℕ) (step : Step) → slice_get steps k ≡ Some step → TellsPlace items places k step

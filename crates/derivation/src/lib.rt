@@ -5,7 +5,9 @@ mod checking;
 mod premises;
 mod rules;
 mod saying;
+mod tracing;
 mod types;
 
 pub use checking::check_derivation;
+pub use tracing::trace;
 pub use types::{BadStep, Derivation, Step};

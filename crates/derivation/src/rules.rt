@@ -167,13 +167,7 @@ fn by_dom(said: Option<&NodeAxiom>, one: Option<Fact>, a: u32, c: u32) -> bool
     }
 }
 
-fn by_disj(
-    said: Option<&NodeAxiom>,
-    one: Option<Fact>,
-    two: Option<Fact>,
-    a: u32,
-    n: u32,
-) -> bool
+fn by_disj(said: Option<&NodeAxiom>, one: Option<Fact>, two: Option<Fact>, a: u32, n: u32) -> bool
     ensures { IsTrue result ↔ GivesFrom [] (option_copied said.entry) one two Rule.Disj (Sub a n) }
 {
     let Some(said) = said else {

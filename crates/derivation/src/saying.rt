@@ -121,7 +121,11 @@ pub fn joins(axiom: &NodeAxiom, r: u32, s: u32, t: u32) -> bool
 {
     match axiom {
         NodeAxiom::Transitive(role) => *role == r && *role == s && *role == t,
-        NodeAxiom::SubRole { chain, into, first_part } => match chain.as_slice().split_first() {
+        NodeAxiom::SubRole {
+            chain,
+            into,
+            first_part,
+        } => match chain.as_slice().split_first() {
             Some((first, rest)) => joins_along(*first, rest, *first_part, *into, (r, s, t)),
             None => false,
         },
