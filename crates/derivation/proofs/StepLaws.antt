@@ -21,8 +21,10 @@ use Rattle.derivation.proofs.MoreGiven.{given_more}
 pub given_alone : (nodes : List Node) (Named : NodeAxiom → Type 0) (One Two : Fact → Type 0) (said : Option NodeAxiom) (one two : Option Fact) (rule : Rule) (fact : Fact)
     → IsTheOne said Named → IsTheOne one One → IsTheOne two Two → Gives nodes Named One Two rule fact ↔ GivesFrom nodes said one two rule fact
 given_alone nodes Named One Two said one two rule fact the_said the_one the_two = (
-  (λ given. given_more nodes Named (Is said) (λ x. (the_said x).0) One (Is one) Two (Is two) (λ x. (the_one x).0) (λ x. (the_two x).0) rule fact given),
-  (λ given. given_more nodes (Is said) Named (λ x. (the_said x).1) (Is one) One (Is two) Two (λ x. (the_one x).1) (λ x. (the_two x).1) rule fact given),
+  (λ given. given_more nodes Named (Is said) One (Is one) Two (Is two) rule fact
+  (record { named = λ _ x. (the_said x).0; one = λ _ x. (the_one x).0; two = λ _ x. (the_two x).0 }) given),
+  (λ given. given_more nodes (Is said) Named (Is one) One (Is two) Two rule fact
+  (record { named = λ _ x. (the_said x).1; one = λ _ x. (the_one x).1; two = λ _ x. (the_two x).1 }) given),
 )
 
 -- a test of what a rule gives and of what it names is one of the step

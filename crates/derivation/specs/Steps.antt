@@ -1,5 +1,5 @@
 -- Derivations: which steps are good, and what a derivation shows.
-use Rattle.std.specs.Prelude.{◌≡◌, ℕ, ◌+◌, ◌<◌, List, [], ◌∷◌, ◌++◌, Some, slice_get, slice_index, length, All}
+use Rattle.std.specs.Prelude.{◌≡◌, ℕ, ◌+◌, ◌<◌, List, [], ◌∷◌, ◌++◌, Some, slice_get, slice_index, length, All, Result, MatchResult}
 use Rattle.el_logic.specs.declared.types.Part.{Part}
 use Rattle.fact_table.specs.declared.types.Fact.{Fact}
 use Rattle.fact_table.specs.declared.types.Fact.TheVariants.{Sub}
@@ -60,6 +60,12 @@ abbrev pub IsBadStep : CaseView → Part → List ℕ → List Step → BadStep 
 IsBadStep case part ranks steps (Bad.Step number) = IsFirstBad case part ranks steps number
 IsBadStep case part ranks steps Bad.Goal =
     AreGoodSteps case part ranks steps × ¬ (ShowsEmpty case steps)
+
+-- what a list of steps is answered: it is a good derivation, or why it is none
+abbrev pub IsAnswer : CaseView → Part → List ℕ → List Step → Result (Unit {0}) BadStep → Type 0
+IsAnswer case part ranks steps answer =
+    MatchResult answer (λ _. IsGoodDerivation case part ranks steps)
+    (IsBadStep case part ranks steps)
 
 -- each number is below the next
 abbrev pub IsAscending : List ℕ → Type 0

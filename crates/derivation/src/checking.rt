@@ -1,11 +1,11 @@
 //! Checking a derivation.
 
-ghost use Rattle.std.specs.Prelude.{◌≡◌, ◌<◌, IsTrue, ◌↔◌, length, Contains, MatchResult};
+ghost use Rattle.std.specs.Prelude.{◌≡◌, ◌<◌, IsTrue, ◌↔◌, length, Contains};
 ghost use Rattle.fact_table.specs.declared.types.Source.{Source};
 ghost use Rattle.el_rules.specs.Rules.{premises, names_axiom};
 ghost use Rattle.el_rules.specs.Following.{NamesNoMore};
 ghost use Rattle.case_file.specs.Cases.{IsMustHave};
-ghost use Rattle.derivation.specs.Steps.{IsGoodStep, ShowsEmpty, IsGoodDerivation, IsBadStep, AreRanks};
+ghost use Rattle.derivation.specs.Steps.{IsGoodStep, ShowsEmpty, IsAnswer, AreRanks};
 
 use crate::premises::{fact_before, named_axiom};
 use crate::rules::gives;
@@ -112,8 +112,7 @@ pub fn check_derivation(
     ranks: &[u32],
 ) -> Result<(), BadStep>
     requires { AreRanks case.now ranks.now }
-    ensures { MatchResult result (λ _. IsGoodDerivation case.now part ranks.now derivation.now)
-        (IsBadStep case.now part ranks.now derivation.now) }
+    ensures { IsAnswer case.now part ranks.now derivation.now result }
 {
     let steps = derivation.as_slice();
     for (count, step) in steps.iter().enumerate() {

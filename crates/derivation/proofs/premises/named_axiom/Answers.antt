@@ -11,14 +11,14 @@ pub returns-in-Left : goal.returns-in-Left
 returns-in-Left c =
     numbered_named (theory_of c.args.case.now) c.args.part c.args.ranks.now c.args.source (Source.Left c.in-Left.number)
     c.left.result.now c.args.case.now.store.left c.in-Left.number (option_copied c.numbered.result)
-    c.in-Left.is (c.left.ensures ∙ ap (λ s. s.left) c.store.ensures)
+    c.in-Left.is (c.left.ensures ∙ ap (λ s. s.left) c.store.ensures.store)
     (c.is_source.ensures.0 c.if-not-is_source.false) (λ the. the) c.numbered.ensures
 
 pub returns-in-Right : goal.returns-in-Right
 returns-in-Right c =
     numbered_named (theory_of c.args.case.now) c.args.part c.args.ranks.now c.args.source (Source.Right c.in-Right.number)
     c.right.result.now c.args.case.now.store.right c.in-Right.number (option_copied c.numbered-in-Right.result)
-    c.in-Right.is (c.right.ensures ∙ ap (λ s. s.right) c.store-in-Right.ensures)
+    c.in-Right.is (c.right.ensures ∙ ap (λ s. s.right) c.store-in-Right.ensures.store)
     (c.is_source.ensures.0 c.if-not-is_source.false) (λ the. the) c.numbered-in-Right.ensures
 
 pub over_of-requires : goal.over_of-requires
