@@ -1,17 +1,15 @@
 -- Good steps as facts with reasons, so that what holds of these holds of steps.
-use Rattle.std.proofs.Common.{◌≡◌, ◌∙◌, ◌+◌, ◌-◌, ◌<◌, ℕ, List, Option, Some, None, Contains, map, length, slice_get, refl, sym, ap, subst, arith}
+use Rattle.std.proofs.Common.{◌≡◌, ◌∙◌, ◌-◌, ℕ, List, Option, Some, None, Contains, map, slice_get, refl, sym, ap, subst, arith}
 use Rattle.std.proofs.lemmas.Option.{slice_get-map, slice_get-get_or, slice_get_within, get_or_from_slice_get, same_Some}
 use Rattle.std.specs.Option.{option_map}
 use Rattle.el_logic.specs.declared.types.Part.{Part}
-use Rattle.concept_store.specs.Reading.{Reading}
 use Rattle.fact_table.specs.declared.types.Fact.{Fact}
 use Rattle.fact_table.specs.declared.types.Proved.{Proved}
 use Rattle.el_rules.specs.Following.{IsEarlier, FollowsByReason, EachFollowsByReason}
-use Rattle.el_rules.specs.Theories.{IsNamedBy, IsStated}
-use Rattle.el_rules.specs.Truth.{IsTrueIn, IsModelOf}
+use Rattle.el_rules.specs.Theories.{IsNamedBy}
 use Rattle.case_file.specs.Cases.{CaseView, theory_of}
 use Rattle.derivation.specs.declared.types.Step.{Step}
-use Rattle.derivation.specs.Steps.{IsStepBefore, IsGoodStep, AreGoodSteps}
+use Rattle.derivation.specs.Steps.{IsStepBefore, AreGoodSteps}
 use Rattle.derivation.proofs.MoreGiven.{given_more}
 
 -- a step as a fact with a reason, which names places from 0
@@ -29,9 +27,12 @@ mapped None item same = cc
 -- a premise among the steps is one among the items
 earlier_item : (steps : List Step) (k number : ℕ) (fact : Fact) → IsStepBefore steps k number fact → IsEarlier (map item_of steps) k (number - 1) fact
 earlier_item steps k number fact (j, step, is, before, at, same) =
-    let place : number - 1 ≡ j = omega (arith, is) in
-    (item_of step, omega (arith, place, before),
-    ap (slice_get (map item_of steps)) place ∙ slice_get-map item_of steps j ∙ ap (option_map item_of) at, same)
+    let place : number - 1 ≡ j = omega (arith, is) in (
+      item_of step,
+      omega (arith, place, before),
+      ap (slice_get (map item_of steps)) place ∙ slice_get-map item_of steps j ∙ ap (option_map item_of) at,
+      same,
+    )
 
 -- good steps follow by their reasons
 pub steps_follow : (case : CaseView) (part : Part) (ranks : List ℕ) (steps : List Step) → AreGoodSteps case part ranks steps

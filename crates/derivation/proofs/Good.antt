@@ -1,5 +1,5 @@
 -- The trace of facts that follow by their reasons is good.
-use Rattle.std.proofs.Common.{◌≡◌, ◌∙◌, ◌+◌, ◌<◌, ◌≤◌, if◌then◌else◌, ℕ, true, false, List, Some, length, slice_get, refl, sym, ap, subst, ⊎_elim, arith}
+use Rattle.std.proofs.Common.{◌≡◌, ◌∙◌, ◌<◌, if◌then◌else◌, ℕ, false, List, Some, length, slice_get, sym, ap, subst, ⊎_elim, arith}
 use Rattle.std.proofs.lemmas.Bool.{cases_lt}
 use Rattle.std.proofs.lemmas.Option.{slice_get_cases, slice_get_within, get_or_from_slice_get, same_Some}
 use Rattle.std.proofs.Math.Nat.{eq-or-lt_of_le}
@@ -8,12 +8,12 @@ use Rattle.fact_table.specs.declared.types.Fact.{Fact}
 use Rattle.fact_table.specs.declared.types.Proved.{Proved}
 use Rattle.fact_table.specs.declared.types.Source.{Source}
 use Rattle.el_rules.specs.Rules.{Gives, premises, names_axiom}
-use Rattle.el_rules.specs.Following.{IsEarlier, EachFollowsByReason, NamesNoMore}
+use Rattle.el_rules.specs.Following.{IsEarlier, EachFollowsByReason}
 use Rattle.el_rules.specs.Theories.{IsNamedBy}
 use Rattle.case_file.specs.Cases.{CaseView, theory_of}
 use Rattle.derivation.specs.declared.types.Step.{Step}
-use Rattle.derivation.specs.Steps.{IsAscending, IsStepBefore, IsGoodStep, AreGoodSteps, EndsIn}
-use Rattle.derivation.specs.Traces.{IsPremiseOf, EachNamesEarlier, IsNumberOf, TellsItem, IsTraceOf}
+use Rattle.derivation.specs.Steps.{IsAscending, IsStepBefore, AreGoodSteps, EndsIn}
+use Rattle.derivation.specs.Traces.{EachNamesEarlier, IsNumberOf, IsTraceOf}
 use Rattle.derivation.proofs.MoreGiven.{given_more, given_premises}
 
 -- a place within a list has an element
@@ -46,9 +46,14 @@ module _ (items : List Proved) (goal : ℕ) (steps : List Step) (trace : IsTrace
       let found = element_at steps j (omega (arith, slice_get_within trace.places j premise there, trace.count)) in
       let told = trace.each j found.0 found.1 in
       let here : told.0 ≡ premise = same_Some told.0 premise (sym told.2 ∙ there) in
-      let one : told.1 ≡ item = same_Some told.1 item (sym told.3 ∙ ap (slice_get items) here ∙ held) in
-      (j, found.0, is, before_in trace.places trace.ascending j k premise place there at less, found.1,
-      told.4.fact_is ∙ ap (λ (i : Proved). i.fact) one ∙ same)
+      let one : told.1 ≡ item = same_Some told.1 item (sym told.3 ∙ ap (slice_get items) here ∙ held) in (
+        j,
+        found.0,
+        is,
+        before_in trace.places trace.ascending j k premise place there at less,
+        found.1,
+        told.4.fact_is ∙ ap (λ (i : Proved). i.fact) one ∙ same,
+      )
 
   -- each step is good
   pub steps_good : (case : CaseView) (part : Part) (ranks : List ℕ) → EachFollowsByReason case.store.nodes (theory_of case) part ranks items → AreGoodSteps case part ranks steps

@@ -1,5 +1,5 @@
 -- What a rule gives from some kinds of axioms and premises, it gives from wider ones.
-use Rattle.std.proofs.Common.{◌≡◌, ◌<◌, ℕ, true, List, refl, lit<, arith}
+use Rattle.std.proofs.Common.{◌≡◌, ◌<◌, true, List, refl, lit<, arith}
 use Rattle.concept_store.specs.declared.types.Node.{Node}
 use Rattle.concept_store.specs.declared.types.NodeAxiom.{NodeAxiom}
 use Rattle.fact_table.specs.declared.types.Fact.{Fact}

@@ -1,5 +1,5 @@
 -- Good steps.
-use Rattle.std.proofs.Common.{◌≡◌, ◌∙◌, ◌+◌, ◌<◌, ◌≤◌, ◌↔◌, ℕ, List, Option, Some, Bool, IsTrue, slice_get, length, sym, subst, ap, ⊎_elim, arith}
+use Rattle.std.proofs.Common.{◌≡◌, ◌∙◌, ◌+◌, ◌<◌, ◌≤◌, ◌↔◌, ℕ, List, Option, Some, Bool, IsTrue, slice_get, length, sym, subst, ⊎_elim, arith}
 use Rattle.std.proofs.lemmas.Option.{same_Some}
 use Rattle.std.proofs.Math.Nat.{eq-or-lt_of_le}
 use Rattle.el_logic.specs.declared.types.Part.{Part}
@@ -22,9 +22,9 @@ pub given_alone : (nodes : List Node) (Named : NodeAxiom → Type 0) (One Two : 
     → IsTheOne said Named → IsTheOne one One → IsTheOne two Two → Gives nodes Named One Two rule fact ↔ GivesFrom nodes said one two rule fact
 given_alone nodes Named One Two said one two rule fact the_said the_one the_two = (
   (λ given. given_more nodes Named (Is said) One (Is one) Two (Is two) rule fact
-  (record { named = λ _ x. (the_said x).0; one = λ _ x. (the_one x).0; two = λ _ x. (the_two x).0 }) given),
+      (record { named = λ _ x. (the_said x).0; one = λ _ x. (the_one x).0; two = λ _ x. (the_two x).0 }) given),
   (λ given. given_more nodes (Is said) Named (Is one) One (Is two) Two rule fact
-  (record { named = λ _ x. (the_said x).1; one = λ _ x. (the_one x).1; two = λ _ x. (the_two x).1 }) given),
+      (record { named = λ _ x. (the_said x).1; one = λ _ x. (the_one x).1; two = λ _ x. (the_two x).1 }) given),
 )
 
 -- a test of what a rule gives and of what it names is one of the step

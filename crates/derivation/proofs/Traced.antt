@@ -1,5 +1,5 @@
 -- Steps that say what the items at ascending places say.
-use Rattle.std.proofs.Common.{◌≡◌, ◌∙◌, ◌+◌, ◌-◌, ◌<◌, ◌≤◌, ℕ, List, [], ◌∷◌, ◌++◌, Some, Contains, length, slice_get, get_or, refl, sym, ap, subst, ⊎_elim, arith, length-append}
+use Rattle.std.proofs.Common.{◌≡◌, ◌∙◌, ◌+◌, ◌-◌, ◌<◌, ◌≤◌, ℕ, List, [], ◌∷◌, ◌++◌, Some, Contains, length, slice_get, get_or, sym, ap, subst, ⊎_elim, arith, length-append}
 use Rattle.std.proofs.Math.Nat.{eq-or-lt_of_le}
 use Rattle.std.proofs.lemmas.List.{get_or_default, get_or_append_left, get_or_push, get_or-reverse, length-reverse}
 use Rattle.std.proofs.lemmas.Option.{slice_get-get_or, slice_get_within, get_or_from_slice_get}
@@ -26,9 +26,11 @@ turned_back old new len turned x held =
 -- and one of the list is there after it was turned round
 turned_to : (old new : List ℕ) → length new ≡ length old → ReversedBelow old new (length old) → (x : ℕ) → Contains old x → Contains new x
 turned_to old new len turned x held =
-    let same : length old - 1 - (length old - 1 - held.0) ≡ held.0 = omega (arith, held.1) in
-    (length old - 1 - held.0, omega (arith, len, held.1),
-    turned (length old - 1 - held.0) x (omega (arith, held.1)) ∙ ap (λ k. get_or old k x) same ∙ held.2)
+    let same : length old - 1 - (length old - 1 - held.0) ≡ held.0 = omega (arith, held.1) in (
+      length old - 1 - held.0,
+      omega (arith, len, held.1),
+      turned (length old - 1 - held.0) x (omega (arith, held.1)) ∙ ap (λ k. get_or old k x) same ∙ held.2,
+    )
 
 -- the first element of a list turned round is the last
 first_last : (old : List ℕ) (goal : ℕ) (k : ℕ) → (rest : List ℕ) × (old ≡ goal ∷ rest) → k ≡ 0 → get_or old k 0 ≡ goal
@@ -46,9 +48,12 @@ turned_places items goal old new needed is =
           let second = turned j 0 (omega (arith, inside, len)) in
           let down = needed.descending (length old - 1 - j) (length old - 1 - i) 0 (omega (arith, less, inside, len)) (omega (arith, less, inside, len)) in
           omega (arith, first, second, down);
-      last = (length needed.first.0, omega (arith, size, len),
-          slice_get-get_or new (length needed.first.0) 0 (omega (arith, size, len))
-          ∙ ap Some (turned (length needed.first.0) 0 (omega (arith, size)) ∙ first_last old goal (length old - 1 - length needed.first.0) needed.first (omega (arith, size))));
+      last = (
+        length needed.first.0,
+        omega (arith, size, len),
+        slice_get-get_or new (length needed.first.0) 0 (omega (arith, size, len))
+            ∙ ap Some (turned (length needed.first.0) 0 (omega (arith, size)) ∙ first_last old goal (length old - 1 - length needed.first.0) needed.first (omega (arith, size))),
+      );
       premises = λ place item premise held at names.
           turned_to old new len turned premise (needed.premises place item premise (turned_back old new len turned place held) at names);
     }

@@ -1,5 +1,5 @@
 -- Derivations: which steps are good, and what a derivation shows.
-use Rattle.std.specs.Prelude.{◌≡◌, ℕ, ◌+◌, ◌<◌, List, [], ◌∷◌, ◌++◌, Some, slice_get, slice_index, length, All, Result, MatchResult}
+use Rattle.std.specs.Prelude.{◌≡◌, ℕ, ◌+◌, ◌<◌, List, Some, slice_get, slice_index, length, All, Result, MatchResult}
 use Rattle.el_logic.specs.declared.types.Part.{Part}
 use Rattle.fact_table.specs.declared.types.Fact.{Fact}
 use Rattle.fact_table.specs.declared.types.Fact.TheVariants.{Sub}
@@ -19,7 +19,8 @@ IsStepBefore steps count number fact = (k : ℕ) × (step : Step)
 -- a step with `count` steps before it is good: its rule gives its fact from the earlier steps that
 -- it names and from the axiom that its source names, which is of the part or of a row with one of
 -- the ranks. It names nothing else.
-pub record IsGoodStep (case : CaseView) (part : Part) (ranks : List ℕ) (steps : List Step) (count : ℕ) (step : Step) : Type 0 where
+pub record IsGoodStep (case : CaseView) (part : Part) (ranks : List ℕ)
+    (steps : List Step) (count : ℕ) (step : Step) : Type 0 where
   pub given : Gives case.store.nodes (IsNamedBy (theory_of case) part ranks step.source)
       (IsStepBefore steps count step.first) (IsStepBefore steps count step.second)
       step.rule step.fact
@@ -45,7 +46,8 @@ ShowsEmpty case steps = (node : ℕ) × IsMustHave case node × EndsIn steps (Su
 
 -- a derivation from the axioms of the part and of the rows with these ranks that shows that such a
 -- node is empty
-pub record IsGoodDerivation (case : CaseView) (part : Part) (ranks : List ℕ) (steps : List Step) : Type 0 where
+pub record IsGoodDerivation (case : CaseView) (part : Part) (ranks : List ℕ)
+    (steps : List Step) : Type 0 where
   pub good : AreGoodSteps case part ranks steps
   pub shows : ShowsEmpty case steps
 

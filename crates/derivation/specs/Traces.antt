@@ -1,5 +1,5 @@
 -- Derivations that are read off a list of facts with their reasons.
-use Rattle.std.specs.Prelude.{◌≡◌, ℕ, ◌+◌, ◌<◌, List, Some, slice_get, slice_index, length, if◌then◌else◌, ◌⊎◌}
+use Rattle.std.specs.Prelude.{◌≡◌, ℕ, ◌+◌, ◌<◌, List, Some, slice_get, length, if◌then◌else◌, ◌⊎◌}
 use Rattle.fact_table.specs.declared.types.Proved.{Proved}
 use Rattle.fact_table.specs.declared.types.Reason.{Reason}
 use Rattle.fact_table.specs.declared.types.Source.{Source}

@@ -118,7 +118,8 @@ fn by_void(one: Option<Fact>, two: Option<Fact>, a: u32, n: u32) -> bool
 }
 
 fn by_role(said: Option<&NodeAxiom>, one: Option<Fact>, a: u32, s: u32, b: u32) -> bool
-    ensures { IsTrue result ↔ GivesFrom [] (option_copied said.entry) one None Rule.Role (Link a s b) }
+    ensures { IsTrue result
+        ↔ GivesFrom [] (option_copied said.entry) one None Rule.Role (Link a s b) }
 {
     match (said, link_from(one, a)) {
         (Some(said), Some((r, into))) => into == b && includes_role(said, r, s),
@@ -134,7 +135,8 @@ fn by_chain(
     t: u32,
     c: u32,
 ) -> bool
-    ensures { IsTrue result ↔ GivesFrom [] (option_copied said.entry) one two Rule.Chain (Link a t c) }
+    ensures { IsTrue result
+        ↔ GivesFrom [] (option_copied said.entry) one two Rule.Chain (Link a t c) }
 {
     let Some(said) = said else {
         return false;
@@ -238,7 +240,8 @@ pub fn gives(
     rule: Rule,
     fact: Fact,
 ) -> bool
-    ensures { IsTrue result ↔ GivesFrom store.now.nodes (option_copied said.entry) one two rule fact }
+    ensures { IsTrue result
+        ↔ GivesFrom store.now.nodes (option_copied said.entry) one two rule fact }
 {
     match fact {
         Fact::Sub(a, b) => gives_sub(store, said, one, two, rule, a, b),

@@ -1,4 +1,4 @@
-use Rattle.std.proofs.Common.{◌≡◌, ◌+◌, ◌≤◌, length, get_or, subst, arith, refl}
+use Rattle.std.proofs.Common.{◌+◌, subst, arith, refl}
 use Rattle.std.proofs.lemmas.Option.{slice_get-get_or}
 use Rattle.derivation.specs.Steps.{IsGoodDerivation, IsFirstBad, AreGoodSteps, ShowsEmpty}
 use Rattle.derivation.proofs.RankLaws.{is_failed}

@@ -1,4 +1,4 @@
-use Rattle.std.proofs.Common.{◌≡◌, ◌∙◌, ap, subst, slice_index_or, [], length, ◌<◌}
+use Rattle.std.proofs.Common.{◌∙◌, ap, subst, slice_index_or, [], length, ◌<◌}
 use Rattle.std.specs.Option.{option_copied}
 use Rattle.std.proofs.lemmas.List.Elements.{All-contains}
 use Rattle.fact_table.specs.declared.types.Source.{Source}

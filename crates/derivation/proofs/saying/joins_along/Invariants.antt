@@ -1,4 +1,4 @@
-use Rattle.std.proofs.Common.{ℕ, ◌+◌, ◌≤◌, length}
+use Rattle.std.proofs.Common.{◌+◌, ◌≤◌, length}
 use Rattle.el_rules.specs.Saying.{JoinsAlong}
 use Rattle.derivation.proofs.saying.joins_along.Given as goal
 

@@ -1,4 +1,4 @@
-use Rattle.std.proofs.Common.{◌≡◌, ◌∙◌, ◌++◌, ◌∷◌, [], refl, sym, ap, subst}
+use Rattle.std.proofs.Common.{◌∙◌, ◌++◌, ◌∷◌, [], refl, sym, ap, subst}
 use Rattle.derivation.proofs.RankLaws.{is_failed}
 use Rattle.derivation.proofs.Gathering.{IsGathered, popped, none_pending, some_pending, gathered_start, gathered_next, all_gathered}
 use Rattle.derivation.proofs.tracing.needed_places.Goals as goal

@@ -1,6 +1,5 @@
-use Rattle.std.proofs.Common.{◌≡◌, ◌∙◌, ◌+◌, ℕ, Some, Contains, length, slice_get, get_or, sym, ap, subst, arith, length-append, [], ◌∷◌, ◌++◌}
+use Rattle.std.proofs.Common.{◌≡◌, ◌∙◌, ◌+◌, ℕ, Some, Contains, length, slice_get, get_or, sym, ap, subst, arith, length-append, [], ◌∷◌}
 use Rattle.std.proofs.lemmas.Option.{slice_get-get_or}
-use Rattle.fact_table.specs.declared.types.Proved.{Proved}
 use Rattle.derivation.specs.declared.types.Step.{Step}
 use Rattle.derivation.specs.Traces.{TellsItem, TellsPlace}
 use Rattle.derivation.proofs.Traced.{AreReady, turned_places, held_at, told_next}
