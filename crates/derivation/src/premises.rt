@@ -57,16 +57,6 @@ pub fn link_from(fact: Option<Fact>, a: u32) -> Option<(u32, u32)>
     }
 }
 
-/// The fact links node a to node b by role r.
-pub fn is_link(fact: Option<Fact>, a: u32, r: u32, b: u32) -> bool
-    ensures { IsTrue result ↔ (fact ≡ Some (Link a r b)) }
-{
-    match fact {
-        Some(Fact::Link(from, role, into)) => from == a && role == r && into == b,
-        _ => false,
-    }
-}
-
 // The axiom with a number, from 1.
 fn numbered(axioms: &[NodeAxiom], number: u32) -> Option<&NodeAxiom>
     ensures { IsTheOne (option_copied result) (IsNumbered axioms.now number) }

@@ -8,7 +8,7 @@ ghost use Rattle.fact_table.specs.declared.types.Fact.TheVariants.{Sub, Link};
 ghost use Rattle.fact_table.specs.declared.types.Rule.{Rule};
 ghost use Rattle.derivation.specs.Inside.Premises.{GivesFrom};
 
-use crate::premises::{is_link, is_sub, link_from, sub_from};
+use crate::premises::{is_sub, link_from, sub_from};
 use crate::saying::{has_domain, includes, includes_role, joins, makes_reflexive, separates};
 use concept_store::{Node, NodeAxiom, Store};
 use fact_table::{Fact, Rule};
@@ -45,6 +45,8 @@ fn restriction_of(store: &Store, n: u32) -> Option<(u32, u32)>
     }
 }
 
+// What each rule gives, if it starts from premises or from an axiom. What the rule does not read, as
+// the nodes or a second premise, is empty in the clause.
 fn by_incl(said: Option<&NodeAxiom>, one: Option<Fact>, a: u32, d: u32) -> bool
     ensures { IsTrue result ↔ GivesFrom [] (option_copied said.entry) one None Rule.Incl (Sub a d) }
 {
