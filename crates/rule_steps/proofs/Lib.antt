@@ -7,3 +7,5 @@ pub mod LoopLaws
 pub mod SingleLaws
 pub mod OpenLaws
 pub mod WalkLaws
+pub mod JoinLaws
+pub mod PairLaws

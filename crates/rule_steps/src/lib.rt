@@ -2,8 +2,10 @@
 #![tactic(auto)]
 
 mod add;
+mod disjoint;
 mod grounds;
 mod laws;
+mod pairs;
 mod parts;
 mod placed;
 mod single;

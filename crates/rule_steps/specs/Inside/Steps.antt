@@ -1,5 +1,5 @@
 -- One step: a fact that a rule gives, and walks over partners.
-use Rattle.std.specs.Prelude.{◌≡◌, ◌<◌, ◌≤◌, ℕ, Bool, true, false, List, Some, Contains, length, slice_get, ⊤}
+use Rattle.std.specs.Prelude.{◌≡◌, ◌≢◌, ◌<◌, ◌≤◌, ℕ, Bool, true, false, List, Some, Contains, length, slice_get, ⊤}
 use Rattle.concept_store.specs.Nodes.{IsNode}
 use Rattle.concept_store.specs.declared.types.Node.{Node}
 use Rattle.concept_store.specs.declared.types.Node.TheVariants.{And, Exists}
@@ -10,8 +10,12 @@ use Rattle.fact_table.specs.declared.types.FactGroup.{FactGroup}
 use Rattle.fact_table.specs.declared.types.Reason.{Reason}
 use Rattle.fact_table.specs.declared.types.Rule.{Rule}
 use Rattle.fact_table.specs.declared.types.Source.{Source}
+use Rattle.concept_store.specs.declared.types.NodeAxiom.{NodeAxiom}
+use Rattle.el_rules.specs.Saying.{Joins, Separates}
+use Rattle.el_rules.specs.Theories.{IsNamedBy}
 use Rattle.el_rules.specs.Following.{FollowsByReason, IsEarlier, NamesNoMore}
 use Rattle.case_file.specs.Cases.{theory_of}
+use Rattle.case_tables.specs.declared.types.Operand.{Operand}
 use Rattle.rule_steps.specs.Counted.{GroundsView, nodes_of}
 use Rattle.rule_steps.specs.Answering.{IsAt}
 use Rattle.rule_steps.specs.declared.placed.PlacedSub.{PlacedSub}
@@ -80,3 +84,17 @@ whole_reason true place other =
     record { first = place; second = other; source = Source.Nothing; rule = Rule.Both }
 whole_reason false place other =
     record { first = other; second = place; source = Source.Nothing; rule = Rule.Both }
+
+-- an axiom that counts, of this source, joins the roles
+abbrev pub JoinsBy : GroundsView → Source → ℕ → ℕ → ℕ → Type 0
+JoinsBy grounds source r s t = (said : NodeAxiom)
+    × IsNamedBy (theory_of grounds.case) grounds.part grounds.ranks source said × Joins said r s t
+
+-- one separates the nodes
+abbrev pub SeparatesBy : GroundsView → Source → ℕ → ℕ → Type 0
+SeparatesBy grounds source c d = (said : NodeAxiom)
+    × IsNamedBy (theory_of grounds.case) grounds.part grounds.ranks source said × Separates said c d
+
+-- the operands are at two positions of one axiom
+abbrev pub IsApart : Operand → Operand → Type 0
+IsApart one other = (one.source ≡ other.source) × (one.position ≢ other.position)
