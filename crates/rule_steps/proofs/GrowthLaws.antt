@@ -147,6 +147,14 @@ module _ (grounds : GroundsView) where
   pub placed_before : (old new : Topped) (k : ℕ) (fact : Fact) → HasGrown grounds old new → k ≤ length (facts_in old) → IsPlacedBelow k (facts_in new) fact → IsPlacedBelow k (facts_in old) fact
   placed_before old new k fact grown within (place, below, at) = (place, below, at_before old new place fact grown (omega arith) at)
 
+  -- what is at places up to this one
+  pub placed_up_to : (old new : Topped) (place : ℕ) (here fact : Fact) → HasGrown grounds old new → IsAt place (facts_in old) here → IsPlacedBelow (place + 1) (facts_in new) fact → IsPlacedBelow (place + 1) (facts_in old) fact
+  placed_up_to old new place here fact grown at below =
+      let within : place < length (facts_in old) = slice_get_within (facts_in old) place here at in placed_before old new (place + 1) fact grown (omega arith) below
+
+  pub placed_stays : (old new : Topped) (k : ℕ) (fact : Fact) → HasGrown grounds old new → IsPlacedBelow k (facts_in old) fact → IsPlacedBelow k (facts_in new) fact
+  placed_stays old new k fact grown (place, below, at) = (place, below, at_grown old new place fact grown at)
+
 -- the item of a fact at a place
 item_at : (items : List Proved) (k : ℕ) (fact : Fact) → slice_get (facts_of items) k ≡ Some fact → (item : Proved) × (slice_get items k ≡ Some item) × (item.fact ≡ fact)
 item_at [] k fact at = absurd (none-some fact at)

@@ -9,3 +9,4 @@ pub mod OpenLaws
 pub mod WalkLaws
 pub mod JoinLaws
 pub mod PairLaws
+pub mod DisjointLaws

@@ -27,3 +27,7 @@ module _ {T : Type 0} (xs : List T) where
       let found = place_of xs x held in
       let within : found.0 < length xs = slice_get_within xs found.0 x found.1 in
       each found.0 x (omega arith) found.1
+
+  -- so it is in another way
+  pub each_map : (n : ℕ) (P Q : T → Type 0) → ((x : T) → P x → Q x) → EachBelow xs n P → EachBelow xs n Q
+  each_map n P Q weaker each k x below at = weaker x (each k x below at)

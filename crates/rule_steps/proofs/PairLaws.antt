@@ -20,7 +20,9 @@ use Rattle.rule_steps.specs.Counted.{GroundsView, IsCounting, IsCounted, nodes_o
 use Rattle.rule_steps.specs.Growing.{facts_in, HasGrown, AreLinksWithin}
 use Rattle.rule_steps.specs.Answering.{IsAt, IsAnsweredFirst, IsAnsweredSecond}
 use Rattle.rule_steps.specs.Inside.Entries.{AreEntriesOf, EachBelow}
-use Rattle.rule_steps.specs.Inside.Steps.{IsDerivedFrom, whole_reason, JoinsBy}
+use Rattle.rule_steps.specs.Inside.Steps.{IsDerivedFrom, whole_reason, CanJoin, JoinsBy}
+use Rattle.rule_steps.specs.declared.walks.Joined.{Joined}
+use Rattle.rule_steps.proofs.JoinLaws.{can_fill, can_void, can_chain}
 use Rattle.rule_steps.proofs.GrowthLaws.{earlier_at, has_stays, placed_before}
 use Rattle.rule_steps.proofs.LoopLaws.{each_all}
 use Rattle.rule_steps.proofs.PlaceLaws.{held_below}
@@ -44,6 +46,47 @@ module _ (grounds : GroundsView) where
     where
       ap_node : IsNode (nodes_of grounds) whole'.node (intersection_of part whole') → whole'.is_left ≡ false → IsNode (nodes_of grounds) whole'.node (And whole'.other part)
       ap_node is same = subst (λ s. IsNode (nodes_of grounds) whole'.node (intersection_of part (record { node = whole'.node; other = whole'.other; is_left = s }))) same is
+
+  -- a restriction, from a link and from what its end is within
+  pub fill_follows : (layers : Topped) (place filler a r s b c node : ℕ) → IsNode (nodes_of grounds) node (Exists s c) → s ≡ r → IsAt place (facts_in layers) (Link a r b) → IsAt filler (facts_in layers) (Sub b c) →
+      IsDerivedFrom grounds (whole layers) (record { fact = Sub a node; reason = record { first = place; second = filler; source = Source.Nothing; rule = Rule.Into } })
+  fill_follows layers place filler a r s b c node is same at below = record {
+    follows = (r, b, c, subst (λ x. IsNode (nodes_of grounds) node (Exists x c)) same is, earlier_at (whole layers) place (Link a r b) at, earlier_at (whole layers) filler (Sub b c) below);
+    names = record { first_is = λ few. absurd (omega arith); second_is = λ few. absurd (omega arith); source_is = λ no. refl };
+  }
+
+  -- owl:Nothing, from a link into what is within it
+  pub void_follows : (layers : Topped) (place empty a r b : ℕ) → IsAt place (facts_in layers) (Link a r b) → IsAt empty (facts_in layers) (Sub b 1) →
+      IsDerivedFrom grounds (whole layers) (record { fact = Sub a 1; reason = record { first = place; second = empty; source = Source.Nothing; rule = Rule.Void } })
+  void_follows layers place empty a r b at below = record {
+    follows = (r, b, refl, earlier_at (whole layers) place (Link a r b) at, earlier_at (whole layers) empty (Sub b 1) below);
+    names = record { first_is = λ few. absurd (omega arith); second_is = λ few. absurd (omega arith); source_is = λ no. refl };
+  }
+
+  -- a link by a chain, from a link and from one that goes on
+  pub chain_follows : (layers : Topped) (place partner a r b s t c : ℕ) (source : Source) → JoinsBy grounds source r s t → IsAt place (facts_in layers) (Link a r b) → IsAt partner (facts_in layers) (Link b s c) →
+      IsDerivedFrom grounds (whole layers) (record { fact = Link a t c; reason = record { first = place; second = partner; source = source; rule = Rule.Chain } })
+  chain_follows layers place partner a r b s t c source (said, named, says) at below = record {
+    follows = (r, s, b, said, named, says, earlier_at (whole layers) place (Link a r b) at, earlier_at (whole layers) partner (Link b s c) below);
+    names = record { first_is = λ few. absurd (omega arith); second_is = λ few. absurd (omega arith); source_is = λ no. cc };
+  }
+
+  -- the fact at a place joins with the links into its node
+  pub fill_joins : (facts : List Fact) (place low high : ℕ) (entry : Restriction) → IsAt place facts (Sub low high) → high ≡ entry.filler → IsNode (nodes_of grounds) entry.node (Exists entry.role entry.filler) →
+      (here : Fact) → IsAt place facts here → CanJoin grounds entry.role low here (Joined.Filler entry.node)
+  fill_joins facts place low high entry at same node here is =
+      let one : Sub low high ≡ here = same_Some (Sub low high) here (sym at ∙ is) in
+      subst (λ h. CanJoin grounds entry.role low h (Joined.Filler entry.node)) (ap (λ x. Sub low x) (sym same) ∙ one) (can_fill grounds entry.role low entry.filler entry.node node)
+
+  pub void_joins : (facts : List Fact) (place low high role : ℕ) → IsAt place facts (Sub low high) → high ≡ 1 → (here : Fact) → IsAt place facts here → CanJoin grounds role low here Joined.Nothing
+  void_joins facts place low high role at same here is =
+      let one : Sub low high ≡ here = same_Some (Sub low high) here (sym at ∙ is) in
+      subst (λ h. CanJoin grounds role low h Joined.Nothing) (ap (λ x. Sub low x) (sym same) ∙ one) (can_void grounds role low)
+
+  pub chain_joins : (facts : List Fact) (place from r s t c : ℕ) (source : Source) → IsAt place facts (Link from s c) → JoinsBy grounds source r s t →
+      (here : Fact) → IsAt place facts here → CanJoin grounds r from here (Joined.Onward t c source)
+  chain_joins facts place from r s t c source at joins here is =
+      subst (λ h. CanJoin grounds r from h (Joined.Onward t c source)) (same_Some (Link from s c) here (sym at ∙ is)) (can_chain grounds r s t from c source joins)
 
 module _ (grounds : GroundsView) (place a part : ℕ) (facts : List Fact) (at : IsAt place facts (Sub a part)) where
   -- all wholes were tried
@@ -85,7 +128,7 @@ module _ (grounds : GroundsView) (place a part : ℕ) (facts : List Fact) (at : 
       (subst (λ y. IsPlacedBelow (place + 1) facts (Link x r y)) low one)
 
   -- all links into a node that is within owl:Nothing
-  pub void_second : (roles : ℕ) → AreLinksWithin roles facts → (part ≡ 1 → (role : ℕ) → role < roles → (x : ℕ) → IsPlacedBelow (place + 1) facts (Link x role a) → Contains facts (Sub x 1)) →
+  pub void_second : (roles : ℕ) → ((x r : ℕ) → IsPlacedBelow (place + 1) facts (Link x r a) → r < roles) → (part ≡ 1 → (role : ℕ) → role < roles → (x : ℕ) → IsPlacedBelow (place + 1) facts (Link x role a) → Contains facts (Sub x 1)) →
       IsAnsweredSecond (nodes_of grounds) (IsCounted grounds) place facts Rule.Void
   void_second roles links each (Link x r y) some given = absurd given
   void_second roles links each (Sub x node) some (r, b, is, one, two) =
@@ -93,7 +136,7 @@ module _ (grounds : GroundsView) (place a part : ℕ) (facts : List Fact) (at : 
       let low : b ≡ a = cc in
       let high : part ≡ 1 = cc in
       let moved : IsPlacedBelow (place + 1) facts (Link x r a) = subst (λ y. IsPlacedBelow (place + 1) facts (Link x r y)) low one in
-      subst (λ y. Contains facts (Sub x y)) (sym is) (each high r (links moved.0 x r a moved.2) x moved)
+      subst (λ y. Contains facts (Sub x y)) (sym is) (each high r (links x r moved) x moved)
 
 module _ (grounds : GroundsView) (place a r b : ℕ) (facts : List Fact) (at : IsAt place facts (Link a r b)) where
   -- the link as the first premise of `Void`
