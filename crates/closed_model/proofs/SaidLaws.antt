@@ -15,7 +15,8 @@ use Rattle.closed_model.specs.ClosedTables.{TableView}
 use Rattle.closed_model.specs.Models.{reading_of, IsSaidBy}
 use Rattle.closed_model.specs.Inside.Elements.{numbers_of, live_count, AreNumbered}
 use Rattle.closed_model.specs.Inside.Entries.{member_said, pair_said, value_at, values_at}
-use Rattle.closed_model.specs.Inside.Ordered.{HaveTheSame, AreListsOf, IsReadOff}
+use Rattle.closed_model.specs.Models.{HaveTheSame}
+use Rattle.closed_model.specs.Inside.Ordered.{AreListsOf, IsReadOff}
 use Rattle.closed_model.proofs.ListLaws.{all_if_each}
 use Rattle.closed_model.proofs.Numbering.{live_count_is, numbered}
 use Rattle.closed_model.proofs.EntryLaws.{kept_of, kept_is, passed_value, members_are, pairs_are}

@@ -3,9 +3,9 @@
 ghost use Rattle.std.specs.Prelude.{◌≡◌, ◌<◌, ◌++◌, ℕ, [], ◌∷◌, map, length, slice_index_or, All, IfOk, OnOk};
 ghost use Rattle.std.specs.List.{AllPairs};
 ghost use Rattle.std.specs.List.Sorted.{IsStrictlyIncreasing};
-ghost use Rattle.closed_model.specs.Models.{ComesBefore};
+ghost use Rattle.closed_model.specs.Models.{ComesBefore, HaveTheSame};
 ghost use Rattle.closed_model.specs.Inside.Entries.{values_at};
-ghost use Rattle.closed_model.specs.Inside.Ordered.{HaveTheSame, AreListsOf};
+ghost use Rattle.closed_model.specs.Inside.Ordered.{AreListsOf};
 
 use el_logic::{MemberLists, Numbers, PairLists, Pairs};
 use std::alloc::{AllocError, Global};

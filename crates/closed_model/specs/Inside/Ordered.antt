@@ -4,12 +4,9 @@ use Rattle.std.specs.List.{AllZip, filter_map}
 use Rattle.el_logic.specs.declared.types.Interp.{Interp}
 use Rattle.fact_table.specs.declared.types.Fact.{Fact}
 use Rattle.case_file.specs.Cases.{CaseView}
+use Rattle.closed_model.specs.Models.{HaveTheSame}
 use Rattle.closed_model.specs.Inside.Elements.{live_count, numbers_of}
 use Rattle.closed_model.specs.Inside.Entries.{member_said, pair_said}
-
--- the same elements
-abbrev pub HaveTheSame : {X : Type 0} → List X → List X → Type 0
-HaveTheSame {X} one other = (x : X) → Contains one x ↔ Contains other x
 
 -- each list has the same elements as the other's at its place
 abbrev pub AreTheSame : {X : Type 0} → List (List X) → List (List X) → Type 0

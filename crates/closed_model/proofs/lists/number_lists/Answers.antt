@@ -2,7 +2,8 @@ use Rattle.std.proofs.Common.{◌≡◌, ◌∙◌, ◌++◌, ◌+◌, ℕ, List
 use Rattle.std.specs.List.Sorted.{IsStrictlyIncreasing}
 use Rattle.std.proofs.lemmas.List.{map_more, take_all, length-map}
 use Rattle.std.proofs.lemmas.List.Elements.{All-push}
-use Rattle.closed_model.specs.Inside.Ordered.{AreTheSame, HaveTheSame}
+use Rattle.closed_model.specs.Models.{HaveTheSame}
+use Rattle.closed_model.specs.Inside.Ordered.{AreTheSame}
 use Rattle.closed_model.proofs.SaidLaws.{lists_of, lists_more}
 use Rattle.closed_model.proofs.lists.number_lists.Goals as goal
 

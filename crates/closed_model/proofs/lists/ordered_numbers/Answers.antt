@@ -4,7 +4,7 @@ use Rattle.std.proofs.lemmas.List.Filters.{dedup_is}
 use Rattle.std.proofs.lemmas.List.Kept.{Contains-dedup_nat, Contains-from_dedup}
 use Rattle.std.proofs.lemmas.List.Sorted.{Contains-permutation, IsPermutation-sym}
 use Rattle.std.proofs.lemmas.Map.Keys.{IsStrictlyIncreasing-dedup}
-use Rattle.closed_model.specs.Inside.Ordered.{HaveTheSame}
+use Rattle.closed_model.specs.Models.{HaveTheSame}
 use Rattle.closed_model.proofs.lists.ordered_numbers.Goals as goal
 
 pub returns-clause-same : goal.returns-clause-same

@@ -4,7 +4,7 @@ use Rattle.std.proofs.lemmas.List.Filters.{dedup_is}
 use Rattle.std.proofs.lemmas.List.Kept.{Contains-from_dedup}
 use Rattle.std.proofs.lemmas.List.Sorted.{Contains-permutation, IsPermutation-sym}
 use Rattle.closed_model.specs.Models.{ComesBefore}
-use Rattle.closed_model.specs.Inside.Ordered.{HaveTheSame}
+use Rattle.closed_model.specs.Models.{HaveTheSame}
 use Rattle.closed_model.proofs.OrderLaws.{same_pair, AllPairs-dedup, Contains-dedup_pair}
 use Rattle.closed_model.proofs.lists.ordered_pairs.Goals as goal
 

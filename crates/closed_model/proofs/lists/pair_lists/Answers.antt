@@ -3,7 +3,8 @@ use Rattle.std.specs.List.{AllPairs}
 use Rattle.closed_model.specs.Models.{ComesBefore}
 use Rattle.std.proofs.lemmas.List.{map_more, take_all, length-map}
 use Rattle.std.proofs.lemmas.List.Elements.{All-push}
-use Rattle.closed_model.specs.Inside.Ordered.{AreTheSame, HaveTheSame}
+use Rattle.closed_model.specs.Models.{HaveTheSame}
+use Rattle.closed_model.specs.Inside.Ordered.{AreTheSame}
 use Rattle.closed_model.proofs.SaidLaws.{lists_of, lists_more}
 use Rattle.closed_model.proofs.lists.pair_lists.Goals as goal
 
