@@ -1,5 +1,5 @@
 -- Models of a case, and the model that a closed table says.
-use Rattle.std.specs.Prelude.{◌≡◌, ◌↔◌, ℕ, ◌+◌, ◌<◌, List, length, All, Contains, ◌⊎◌}
+use Rattle.std.specs.Prelude.{◌≡◌, ◌↔◌, ℕ, ◌+◌, ◌<◌, List, All, Contains, ◌⊎◌}
 use Rattle.std.specs.List.{AllPairs}
 use Rattle.std.specs.List.Sorted.{IsStrictlyIncreasing}
 use Rattle.el_logic.specs.declared.types.Interp.{Interp}
@@ -41,3 +41,7 @@ ComesBefore (a, b) (c, d) = (a < c) ⊎ ((a ≡ c) × (b < d))
 pub record HasOrderedLists (i : Interp) : Type 0 where
   pub members : All IsStrictlyIncreasing i.classes
   pub pairs : All (AllPairs ComesBefore) i.roles
+
+-- the same elements
+abbrev pub HaveTheSame : {X : Type 0} → List X → List X → Type 0
+HaveTheSame {X} one other = (x : X) → Contains one x ↔ Contains other x

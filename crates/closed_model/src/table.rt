@@ -52,9 +52,17 @@ impl ClosedTable {
     /// The table of these ranks and facts.
     pub fn new(case: Arc<Case>, tables: Arc<Tables>, ranks: Numbers, base: Base) -> ClosedTable
         requires { IsClosedTable (record {
-            case = arc_value case; tables = arc_value tables; ranks = ranks; items = base }) }
+          case = arc_value case;
+          tables = arc_value tables;
+          ranks = ranks;
+          items = base;
+        }) }
         ensures { result ≡ record {
-            case = arc_value case; tables = arc_value tables; ranks = ranks; items = base } }
+          case = arc_value case;
+          tables = arc_value tables;
+          ranks = ranks;
+          items = base;
+        } }
     {
         ClosedTable {
             case,
