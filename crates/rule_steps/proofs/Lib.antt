@@ -10,3 +10,5 @@ pub mod WalkLaws
 pub mod JoinLaws
 pub mod PairLaws
 pub mod DisjointLaws
+pub mod AnswerLaws
+pub mod BeginLaws

@@ -2,6 +2,7 @@
 #![tactic(auto)]
 
 mod add;
+mod answer;
 mod disjoint;
 mod grounds;
 mod laws;

@@ -11,12 +11,12 @@ use Rattle.fact_table.specs.declared.types.Reason.{Reason}
 use Rattle.fact_table.specs.declared.types.Rule.{Rule}
 use Rattle.fact_table.specs.declared.types.Source.{Source}
 use Rattle.concept_store.specs.declared.types.NodeAxiom.{NodeAxiom}
-use Rattle.el_rules.specs.Saying.{Joins, Separates}
+use Rattle.el_rules.specs.Saying.{Joins, MakesReflexive, Separates}
 use Rattle.el_rules.specs.Theories.{IsNamedBy}
 use Rattle.el_rules.specs.Following.{FollowsByReason, IsEarlier, NamesNoMore}
 use Rattle.case_file.specs.Cases.{theory_of}
 use Rattle.case_tables.specs.declared.types.Operand.{Operand}
-use Rattle.rule_steps.specs.Counted.{GroundsView, nodes_of}
+use Rattle.rule_steps.specs.Counted.{GroundsView, IsCounted, nodes_of}
 use Rattle.rule_steps.specs.Answering.{IsAt}
 use Rattle.rule_steps.specs.declared.placed.PlacedSub.{PlacedSub}
 use Rattle.rule_steps.specs.declared.placed.PlacedLink.{PlacedLink}
@@ -98,3 +98,8 @@ SeparatesBy grounds source c d = (said : NodeAxiom)
 -- the operands are at two positions of one axiom
 abbrev pub IsApart : Operand → Operand → Type 0
 IsApart one other = (one.source ≡ other.source) × (one.position ≢ other.position)
+
+-- each role that an axiom that counts makes reflexive leads from the node to itself
+abbrev pub HasReflexive : GroundsView → ℕ → List Fact → Type 0
+HasReflexive grounds node facts = (role : ℕ) (said : NodeAxiom) → IsCounted grounds said
+    → MakesReflexive said role → Contains facts (Link node role node)
