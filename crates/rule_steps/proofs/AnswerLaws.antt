@@ -56,38 +56,38 @@ module _ (nodes : List Node) (Named : NodeAxiom → Type 0) (p : ℕ) (facts : L
 
   -- a subsumption is answered if each rule that starts from one is
   module _ (a c : ℕ) (at : IsAt p facts (Sub a c)) where
+    sub_left : IsOpened nodes facts a c → IsAnsweredFirst nodes Named p facts Rule.Left
+    sub_left opened (Link x r y) some given = absurd given
+    sub_left opened (Sub x y) some (n, d, node, is) =
+        let same : Sub a c ≡ Sub x n = same_Some (Sub a c) (Sub x n) (sym at ∙ is) in
+        let low : a ≡ x = cc in
+        let high : n ≡ c = cc in
+        subst (λ z. Contains facts (Sub z y)) low (opened.left y d (subst (λ z. IsNode nodes z (And y d)) high node))
+
+    sub_right : IsOpened nodes facts a c → IsAnsweredFirst nodes Named p facts Rule.Right
+    sub_right opened (Link x r y) some given = absurd given
+    sub_right opened (Sub x y) some (n, d, node, is) =
+        let same : Sub a c ≡ Sub x n = same_Some (Sub a c) (Sub x n) (sym at ∙ is) in
+        let low : a ≡ x = cc in
+        let high : n ≡ c = cc in
+        subst (λ z. Contains facts (Sub z y)) low (opened.right d y (subst (λ z. IsNode nodes z (And d y)) high node))
+
+    sub_out : IsOpened nodes facts a c → IsAnsweredFirst nodes Named p facts Rule.Out
+    sub_out opened (Sub x y) some given = absurd given
+    sub_out opened (Link x r y) some (n, node, is) =
+        let same : Sub a c ≡ Sub x n = same_Some (Sub a c) (Sub x n) (sym at ∙ is) in
+        let low : a ≡ x = cc in
+        let high : n ≡ c = cc in
+        subst (λ z. Contains facts (Link z r y)) low (opened.out r y (subst (λ z. IsNode nodes z (Exists r y)) high node))
+
     sub_first : IsAnsweredFirst nodes Named p facts Rule.Incl → IsOpened nodes facts a c → IsAnsweredFirst nodes Named p facts Rule.Both → IsAnsweredFirst nodes Named p facts Rule.Disj →
         (rule : Rule) → IsAnsweredFirst nodes Named p facts rule
-    sub_first incl opened both disj Rule.Incl = incl
-    sub_first incl opened both disj Rule.Both = both
-    sub_first incl opened both disj Rule.Disj = disj
-    sub_first incl opened both disj Rule.Left = by_fact
-      where
-        by_fact : IsAnsweredFirst nodes Named p facts Rule.Left
-        by_fact (Link x r y) some given = absurd given
-        by_fact (Sub x y) some (n, d, node, is) =
-            let same : Sub a c ≡ Sub x n = same_Some (Sub a c) (Sub x n) (sym at ∙ is) in
-            let low : a ≡ x = cc in
-            let high : n ≡ c = cc in
-            subst (λ z. Contains facts (Sub z y)) low (opened.left y d (subst (λ z. IsNode nodes z (And y d)) high node))
-    sub_first incl opened both disj Rule.Right = by_fact
-      where
-        by_fact : IsAnsweredFirst nodes Named p facts Rule.Right
-        by_fact (Link x r y) some given = absurd given
-        by_fact (Sub x y) some (n, d, node, is) =
-            let same : Sub a c ≡ Sub x n = same_Some (Sub a c) (Sub x n) (sym at ∙ is) in
-            let low : a ≡ x = cc in
-            let high : n ≡ c = cc in
-            subst (λ z. Contains facts (Sub z y)) low (opened.right d y (subst (λ z. IsNode nodes z (And d y)) high node))
-    sub_first incl opened both disj Rule.Out = by_fact
-      where
-        by_fact : IsAnsweredFirst nodes Named p facts Rule.Out
-        by_fact (Sub x y) some given = absurd given
-        by_fact (Link x r y) some (n, node, is) =
-            let same : Sub a c ≡ Sub x n = same_Some (Sub a c) (Sub x n) (sym at ∙ is) in
-            let low : a ≡ x = cc in
-            let high : n ≡ c = cc in
-            subst (λ z. Contains facts (Link z r y)) low (opened.out r y (subst (λ z. IsNode nodes z (Exists r y)) high node))
+    sub_first incl opened both disj Rule.Incl fact some given = incl fact some given
+    sub_first incl opened both disj Rule.Both fact some given = both fact some given
+    sub_first incl opened both disj Rule.Disj fact some given = disj fact some given
+    sub_first incl opened both disj Rule.Left fact some given = sub_left opened fact some given
+    sub_first incl opened both disj Rule.Right fact some given = sub_right opened fact some given
+    sub_first incl opened both disj Rule.Out fact some given = sub_out opened fact some given
     sub_first incl opened both disj Rule.Into (Sub x n) some (r, b, d, node, is, two) = absurd (sub_no_link a c x r b at is)
     sub_first incl opened both disj Rule.Void (Sub x n) some (r, b, same, is, two) = absurd (sub_no_link a c x r b at is)
     sub_first incl opened both disj Rule.Role (Link x s b) some (r, said, named, says, is) = absurd (sub_no_link a c x r b at is)
@@ -100,10 +100,10 @@ module _ (nodes : List Node) (Named : NodeAxiom → Type 0) (p : ℕ) (facts : L
 
     sub_second : IsAnsweredSecond nodes Named p facts Rule.Both → IsAnsweredSecond nodes Named p facts Rule.Disj → IsAnsweredSecond nodes Named p facts Rule.Into → IsAnsweredSecond nodes Named p facts Rule.Void →
         (rule : Rule) → IsAnsweredSecond nodes Named p facts rule
-    sub_second both disj into void Rule.Both = both
-    sub_second both disj into void Rule.Disj = disj
-    sub_second both disj into void Rule.Into = into
-    sub_second both disj into void Rule.Void = void
+    sub_second both disj into void Rule.Both fact some given = both fact some given
+    sub_second both disj into void Rule.Disj fact some given = disj fact some given
+    sub_second both disj into void Rule.Into fact some given = into fact some given
+    sub_second both disj into void Rule.Void fact some given = void fact some given
     sub_second both disj into void Rule.Chain (Sub x y) some given = absurd given
     sub_second both disj into void Rule.Chain (Link x t d) some (r, s, b, said, named, says, one, is) = absurd (sub_no_link a c b s d at is)
     sub_second both disj into void Rule.Itself fact some given = absurd (omega arith)
@@ -132,11 +132,11 @@ module _ (nodes : List Node) (Named : NodeAxiom → Type 0) (p : ℕ) (facts : L
 
     link_first : IsAnsweredFirst nodes Named p facts Rule.Role → IsAnsweredFirst nodes Named p facts Rule.Dom → IsAnsweredFirst nodes Named p facts Rule.Void → IsAnsweredFirst nodes Named p facts Rule.Into →
         IsAnsweredFirst nodes Named p facts Rule.Chain → (rule : Rule) → IsAnsweredFirst nodes Named p facts rule
-    link_first role dom void into chain Rule.Role = role
-    link_first role dom void into chain Rule.Dom = dom
-    link_first role dom void into chain Rule.Void = void
-    link_first role dom void into chain Rule.Into = into
-    link_first role dom void into chain Rule.Chain = chain
+    link_first role dom void into chain Rule.Role fact some given = role fact some given
+    link_first role dom void into chain Rule.Dom fact some given = dom fact some given
+    link_first role dom void into chain Rule.Void fact some given = void fact some given
+    link_first role dom void into chain Rule.Into fact some given = into fact some given
+    link_first role dom void into chain Rule.Chain fact some given = chain fact some given
     link_first role dom void into chain Rule.Incl (Sub x d) some (y, said, named, says, is) = absurd (link_no_sub x y is)
     link_first role dom void into chain Rule.Left (Sub x d) some (n, y, node, is) = absurd (link_no_sub x n is)
     link_first role dom void into chain Rule.Right (Sub x d) some (n, y, node, is) = absurd (link_no_sub x n is)
@@ -149,7 +149,7 @@ module _ (nodes : List Node) (Named : NodeAxiom → Type 0) (p : ℕ) (facts : L
     link_first role dom void into chain _ fact some given = absurd given
 
     link_second : IsAnsweredSecond nodes Named p facts Rule.Chain → (rule : Rule) → IsAnsweredSecond nodes Named p facts rule
-    link_second chain Rule.Chain = chain
+    link_second chain Rule.Chain fact some given = chain fact some given
     link_second chain Rule.Both (Link x s y) some given = absurd given
     link_second chain Rule.Both (Sub x n) some (c, d, node, one, is) = absurd (link_no_sub x d is)
     link_second chain Rule.Disj (Link x s y) some given = absurd given

@@ -12,3 +12,4 @@ pub mod PairLaws
 pub mod DisjointLaws
 pub mod AnswerLaws
 pub mod BeginLaws
+pub mod RowLaws

@@ -9,7 +9,7 @@ use Rattle.rule_steps.specs.Growing.{HasGrown}
 use Rattle.fact_table.specs.declared.types.Rule.{Rule}
 use Rattle.rule_steps.proofs.GrowthLaws.{first_grown, second_grown}
 use Rattle.rule_steps.proofs.AnswerLaws.{sub_answered, any_source, opened_stays}
-use Rattle.rule_steps.proofs.answer.answer_sub.Goals as goal
+use Rattle.rule_steps.proofs.steps.answer_sub.Goals as goal
 
 pub include-requires : goal.include-requires
 include-requires c =

@@ -6,7 +6,7 @@ use Rattle.rule_steps.proofs.GrowthLaws.{at_grown}
 use Rattle.std.specs.Prelude.{Some}
 use Rattle.rule_steps.specs.Counted.{IsCountedSince}
 use Rattle.rule_steps.proofs.AnswerLaws.{sub_gives_no_role, link_gives_no_sub}
-use Rattle.rule_steps.proofs.answer.answer_rows.Goals as goal
+use Rattle.rule_steps.proofs.steps.answer_rows.Goals as goal
 
 pub returns-in-Sub-clause-answered : goal.returns-in-Sub-clause-answered
 returns-in-Sub-clause-answered c =

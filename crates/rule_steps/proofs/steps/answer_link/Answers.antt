@@ -9,7 +9,7 @@ use Rattle.rule_steps.specs.Growing.{HasGrown}
 use Rattle.fact_table.specs.declared.types.Rule.{Rule}
 use Rattle.rule_steps.proofs.GrowthLaws.{first_grown}
 use Rattle.rule_steps.proofs.AnswerLaws.{link_answered, any_source}
-use Rattle.rule_steps.proofs.answer.answer_link.Goals as goal
+use Rattle.rule_steps.proofs.steps.answer_link.Goals as goal
 
 pub lead_from_domain-requires : goal.lead_from_domain-requires
 lead_from_domain-requires c =

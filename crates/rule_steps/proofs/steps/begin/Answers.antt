@@ -5,7 +5,7 @@ use Rattle.rule_steps.specs.Growing.{facts_in}
 use Rattle.rule_steps.proofs.GrowthLaws.{has_stays}
 use Rattle.fact_table.specs.declared.types.Proved.{Proved}
 use Rattle.rule_steps.proofs.BeginLaws.{begun_all}
-use Rattle.rule_steps.proofs.answer.begin.Goals as goal
+use Rattle.rule_steps.proofs.steps.begin.Goals as goal
 
 pub returns-clause-begun : goal.returns-clause-begun
 returns-clause-begun c =

@@ -9,7 +9,7 @@ use Rattle.std.specs.Prelude.{None}
 use Rattle.case_tables.specs.declared.types.Reflexive.{Reflexive}
 use Rattle.rule_steps.proofs.SingleLaws.{counted_more}
 use Rattle.rule_steps.proofs.BeginLaws.{reflexive_follows, reflexive_all}
-use Rattle.rule_steps.proofs.answer.link_to_itself.Goals as goal
+use Rattle.rule_steps.proofs.steps.link_to_itself.Goals as goal
 
 pub add_counted-requires : goal.add_counted-requires
 add_counted-requires c since counts =

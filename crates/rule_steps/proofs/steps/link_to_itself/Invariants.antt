@@ -4,7 +4,7 @@ use Rattle.case_tables.specs.declared.types.Reflexive.{Reflexive}
 use Rattle.rule_steps.specs.Growing.{facts_in, HasGrown}
 use Rattle.rule_steps.specs.Inside.Entries.{EachBelow}
 use Rattle.rule_steps.proofs.SingleLaws.{GivesCounted}
-use Rattle.rule_steps.proofs.answer.link_to_itself.Given as goal
+use Rattle.rule_steps.proofs.steps.link_to_itself.Given as goal
 
 abbrev pub invariant-loop-entry : goal.invariant-loop-entry
 invariant-loop-entry l = record {
