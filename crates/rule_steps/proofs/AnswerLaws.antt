@@ -1,5 +1,5 @@
 -- All rules for one fact.
-use Rattle.std.proofs.Common.{◌≡◌, ℕ, ◌+◌, ◌<◌, ◌≤◌, List, length, map, Contains, Some, refl, subst, sym, ◌∙◌, ap, arith}
+use Rattle.std.proofs.Common.{◌≡◌, ℕ, ◌+◌, List, Contains, Some, subst, sym, ◌∙◌, ap, arith}
 use Rattle.std.specs.Prelude.{Option, None, slice_get}
 use Rattle.std.specs.Option.{option_map}
 use Rattle.std.proofs.lemmas.Option.{same_Some, slice_get-map}
@@ -9,27 +9,17 @@ use Rattle.concept_store.specs.declared.types.Node.TheVariants.{And, Exists}
 use Rattle.concept_store.specs.declared.types.NodeAxiom.{NodeAxiom}
 use Rattle.fact_table.specs.declared.types.Fact.{Fact}
 use Rattle.fact_table.specs.declared.types.Fact.TheVariants.{Sub, Link}
-use Rattle.fact_table.specs.declared.types.FactSide.{FactSide}
 use Rattle.fact_table.specs.declared.types.Rule.{Rule}
-use Rattle.fact_table.specs.declared.types.Source.{Source}
 use Rattle.fact_table.specs.declared.types.Proved.{Proved}
-use Rattle.fact_table.specs.Groups.{node_at}
 use Rattle.fact_table.specs.Lists.{facts_of}
-use Rattle.fact_layers.specs.Tops.{Topped, whole}
-use Rattle.el_rules.specs.Rules.{Gives, premises}
-use Rattle.el_rules.specs.Saying.{MakesReflexive}
+use Rattle.fact_layers.specs.Tops.{Topped}
 use Rattle.el_rules.specs.Following.{IsPlacedBelow}
-use Rattle.case_file.specs.Cases.{theory_of}
-use Rattle.case_tables.specs.declared.types.Reflexive.{Reflexive}
-use Rattle.rule_steps.specs.Counted.{GroundsView, IsCounting, IsCounted, IsCountedSince, nodes_of}
+use Rattle.rule_steps.specs.Counted.{GroundsView, IsCounted, IsCountedSince, nodes_of}
 use Rattle.rule_steps.specs.Growing.{facts_in, HasGrown}
-use Rattle.rule_steps.specs.Answering.{IsAt, IsAnsweredFirst, IsAnsweredSecond, IsAnswered, IsNoFact, IsBegun}
-use Rattle.rule_steps.specs.Inside.Entries.{AreEntriesOf, EachBelow}
-use Rattle.rule_steps.specs.Inside.Steps.{IsDerivedFrom, IsOpened, HasReflexive}
+use Rattle.rule_steps.specs.Answering.{IsAt, IsAnsweredFirst, IsAnsweredSecond, IsAnswered}
+use Rattle.rule_steps.specs.Inside.Steps.{IsOpened}
 use Rattle.rule_steps.proofs.Giving.{gives_more}
 use Rattle.rule_steps.proofs.GrowthLaws.{has_stays}
-use Rattle.rule_steps.proofs.LoopLaws.{each_all}
-use Rattle.rule_steps.proofs.SingleLaws.{GivesCounted}
 
 -- the fact of the item at a place
 pub fact_of_item : (items : List Proved) (place : ℕ) (item : Proved) → slice_get items place ≡ Some item → IsAt place (facts_of items) item.fact

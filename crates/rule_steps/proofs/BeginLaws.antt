@@ -1,18 +1,15 @@
 -- Facts from nothing.
-use Rattle.std.proofs.Common.{◌≡◌, ℕ, ◌<◌, ◌≤◌, List, length, Contains, refl, subst, sym, ◌∙◌, arith}
+use Rattle.std.proofs.Common.{ℕ, ◌<◌, ◌≤◌, List, length, Contains, refl, subst, sym}
 use Rattle.std.specs.Prelude.{None}
 use Rattle.fact_table.specs.declared.types.Fact.{Fact}
 use Rattle.fact_table.specs.declared.types.Fact.TheVariants.{Sub, Link}
-use Rattle.fact_table.specs.declared.types.FactSide.{FactSide}
 use Rattle.fact_table.specs.declared.types.Rule.{Rule}
 use Rattle.fact_table.specs.declared.types.Source.{Source}
-use Rattle.fact_table.specs.Groups.{node_at}
 use Rattle.fact_layers.specs.Tops.{Topped, whole}
-use Rattle.el_rules.specs.Rules.{Gives}
 use Rattle.el_rules.specs.Saying.{MakesReflexive}
 use Rattle.case_tables.specs.declared.types.Reflexive.{Reflexive}
 use Rattle.rule_steps.specs.Counted.{GroundsView, IsCounting, IsCounted, nodes_of}
-use Rattle.rule_steps.specs.Answering.{IsNoFact, IsBegun}
+use Rattle.rule_steps.specs.Answering.{IsBegun}
 use Rattle.rule_steps.specs.Inside.Entries.{AreEntriesOf, EachBelow}
 use Rattle.rule_steps.specs.Inside.Steps.{IsDerivedFrom, HasReflexive}
 use Rattle.rule_steps.proofs.LoopLaws.{each_all}

@@ -1,6 +1,6 @@
 -- The axioms of rows, and what further rows give.
-use Rattle.std.proofs.Common.{◌≡◌, ℕ, ◌+◌, ◌<◌, ◌≤◌, ◌⊎◌, List, [], ◌∷◌, length, map, get_or, Contains, Some, refl, subst, sym, ◌∙◌, inl, inr, ⊎_elim, arith, All}
-use Rattle.std.specs.Prelude.{slice_get, slice_index_or}
+use Rattle.std.proofs.Common.{ℕ, ◌<◌, ◌≤◌, ◌⊎◌, List, [], ◌∷◌, length, map, get_or, Contains, Some, subst, sym, inl, ⊎_elim, arith, All}
+use Rattle.std.specs.Prelude.{slice_index_or}
 use Rattle.std.proofs.lemmas.Bool.{cases_lt}
 use Rattle.std.proofs.Math.ListN.{get_or-eq_default}
 use Rattle.std.proofs.lemmas.List.{get_or-map, length-map}
@@ -14,13 +14,11 @@ use Rattle.fact_table.specs.declared.types.Fact.{Fact}
 use Rattle.fact_table.specs.declared.types.Fact.TheVariants.{Sub, Link}
 use Rattle.fact_table.specs.declared.types.Rule.{Rule}
 use Rattle.fact_table.specs.declared.types.Source.{Source}
-use Rattle.el_rules.specs.Rules.{Gives, premises}
 use Rattle.el_rules.specs.Saying.{Separates, Joins, HasDomain}
 use Rattle.el_rules.specs.Theories.{IsNamed, IsSourceOf}
-use Rattle.el_rules.specs.Following.{IsPlacedBelow}
 use Rattle.case_file.specs.declared.types.CaseInput.{CaseInput}
 use Rattle.case_file.specs.Cases.{IsCaseInput, IsRowAxiom, row_over, row_at, case_of, theory_of}
-use Rattle.rule_steps.specs.Counted.{GroundsView, IsCounting, IsSince, IsCounted, IsCountedSince, nodes_of}
+use Rattle.rule_steps.specs.Counted.{GroundsView, IsSince, IsCounted, IsCountedSince, nodes_of}
 use Rattle.rule_steps.specs.Answering.{AreClosedBelow, IsAnsweredByInclusions}
 use Rattle.rule_steps.specs.RowAxioms.{IsInclusion, HaveRowsInclusions}
 use Rattle.rule_steps.proofs.PlaceLaws.{held_at}

@@ -55,6 +55,6 @@ pub fn further_rows_need_only_their_inclusions()
         → ((rank : ℕ) → Contains grounds.ranks rank → Contains olds rank ⊎ (first ≤ rank))
         → AreClosedBelow (nodes_of grounds) (IsCounted (record grounds { ranks = olds })) p facts
         → ((k : ℕ) → k < p → IsAnsweredByInclusions (nodes_of grounds)
-            (IsCountedSince (Some first) grounds) k facts)
+        (IsCountedSince (Some first) grounds) k facts)
         → AreClosedBelow (nodes_of grounds) (IsCounted grounds) p facts }
 {}

@@ -110,8 +110,15 @@ pub fn answer_rows(
 
 // A fact from nothing.
 fn stated(fact: Fact, rule: Rule, source: Source) -> Proved
-    ensures { result ≡ record { fact = fact; reason = record {
-        first = 0; second = 0; source = source; rule = rule } } }
+    ensures { result ≡ record {
+      fact = fact;
+      reason = record {
+        first = 0;
+        second = 0;
+        source = source;
+        rule = rule;
+      };
+    } }
 {
     Proved {
         fact,
@@ -152,7 +159,15 @@ pub fn begin(grounds: &Grounds, layers: &mut Layers, node: u32) -> Result<(), Al
     ensures begun { OnOk result (IsBegun (nodes_of grounds.now) (IsCounted grounds.now)
         node (facts_in layers.new)) }
 {
-    add(grounds, layers, stated(Fact::Sub(node, node), Rule::Itself, Source::Nothing))?;
-    add(grounds, layers, stated(Fact::Sub(node, 0), Rule::Top, Source::Nothing))?;
+    add(
+        grounds,
+        layers,
+        stated(Fact::Sub(node, node), Rule::Itself, Source::Nothing),
+    )?;
+    add(
+        grounds,
+        layers,
+        stated(Fact::Sub(node, 0), Rule::Top, Source::Nothing),
+    )?;
     link_to_itself(grounds, layers, node)
 }

@@ -1,5 +1,5 @@
 -- One step: a fact that a rule gives, and walks over partners.
-use Rattle.std.specs.Prelude.{◌≡◌, ◌≢◌, ◌<◌, ◌≤◌, ℕ, Bool, true, false, List, Some, Contains, length, slice_get, ⊤}
+use Rattle.std.specs.Prelude.{◌≡◌, ◌≢◌, ◌<◌, ◌≤◌, ℕ, Bool, true, false, List, Contains, length, ⊤}
 use Rattle.concept_store.specs.Nodes.{IsNode}
 use Rattle.concept_store.specs.declared.types.Node.{Node}
 use Rattle.concept_store.specs.declared.types.Node.TheVariants.{And, Exists}
@@ -48,7 +48,8 @@ abbrev pub IsLinkAt : PlacedLink → List Fact → Type 0
 IsLinkAt link facts = IsAt link.place facts (Link link.from link.role link.into)
 
 -- the elements of a group that a walk down from a bound has met are so
-abbrev pub AreMetFrom : (Fact → FactGroup) → List Fact → FactGroup → ℕ → ℕ → (Fact → Type 0) → Type 0
+abbrev pub AreMetFrom : (Fact → FactGroup) → List Fact → FactGroup → ℕ → ℕ → (Fact → Type 0)
+    → Type 0
 AreMetFrom key facts group below bound P = (k : ℕ) (fact : Fact) → below ≤ k → k < bound
     → IsAt k facts fact → key fact ≡ group → P fact
 
