@@ -1,5 +1,5 @@
 -- Places that are closed, one after the other.
-use Rattle.std.proofs.Common.{◌≡◌, ℕ, zero, suc, ◌+◌, ◌<◌, ◌≤◌, ◌⊎◌, List, ◌++◌, length, Contains, refl, inl, inr, ⊎_elim, subst, sym, arith}
+use Rattle.std.proofs.Common.{◌≡◌, ℕ, zero, suc, ◌+◌, ◌<◌, ◌≤◌, ◌⊎◌, List, ◌++◌, length, Contains, refl, ⊎_elim, sym, arith}
 use Rattle.std.proofs.lemmas.List.Elements.{Contains-append_left}
 use Rattle.concept_store.specs.declared.types.Node.{Node}
 use Rattle.concept_store.specs.declared.types.NodeAxiom.{NodeAxiom}

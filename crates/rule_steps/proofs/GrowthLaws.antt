@@ -1,19 +1,17 @@
 -- Lists of facts that grow.
-use Rattle.std.proofs.Common.{◌≡◌, ℕ, ◌+◌, ◌<◌, ◌≤◌, ◌⊎◌, List, [], ◌∷◌, ◌++◌, length, map, Contains, Some, refl, ap, subst, sym, ◌∙◌, ⊎_elim, arith, append_assoc, zero, suc}
+use Rattle.std.proofs.Common.{◌≡◌, ℕ, ◌+◌, ◌<◌, ◌≤◌, List, [], ◌∷◌, ◌++◌, length, Contains, Some, refl, ap, subst, sym, ◌∙◌, ⊎_elim, arith, append_assoc, zero, suc}
 use Rattle.std.specs.Prelude.{slice_get}
 use Rattle.std.proofs.lemmas.Bool.{cases_lt}
 use Rattle.std.proofs.lemmas.List.{map-append, append-nil}
 use Rattle.std.proofs.lemmas.List.Elements.{Contains-append_left}
 use Rattle.std.proofs.lemmas.Option.{slice_get_within, none-some, same_Some}
-use Rattle.concept_store.specs.declared.types.Node.{Node}
 use Rattle.concept_store.specs.declared.types.NodeAxiom.{NodeAxiom}
 use Rattle.fact_table.specs.declared.types.Fact.{Fact}
-use Rattle.fact_table.specs.declared.types.Fact.TheVariants.{Sub, Link}
+use Rattle.fact_table.specs.declared.types.Fact.TheVariants.{Link}
 use Rattle.fact_table.specs.declared.types.Rule.{Rule}
 use Rattle.fact_table.specs.declared.types.Proved.{Proved}
 use Rattle.fact_table.specs.Lists.{facts_of}
 use Rattle.fact_layers.specs.Tops.{Topped, whole}
-use Rattle.el_rules.specs.Rules.{Gives}
 use Rattle.el_rules.specs.Theories.{IsNamedBy}
 use Rattle.el_rules.specs.Following.{IsEarlier, IsPlacedBelow, FollowsByReason, NamesNoMore}
 use Rattle.case_file.specs.Cases.{theory_of}
@@ -22,7 +20,7 @@ use Rattle.rule_steps.specs.Growing.{facts_in, AreLinksWithin, EachNamesNoMore, 
 use Rattle.rule_steps.specs.Answering.{IsAt, AreClosedBelow, IsAnsweredFirst, IsAnsweredSecond, AreBegunBelow}
 use Rattle.rule_steps.specs.Inside.Steps.{IsDerivedFrom, IsLinkWithin}
 use Rattle.rule_steps.proofs.Giving.{gives_more}
-use Rattle.rule_steps.proofs.PlaceLaws.{at_stays, was_at, at_end, only_end}
+use Rattle.rule_steps.proofs.PlaceLaws.{at_stays, was_at, only_end}
 use Rattle.rule_steps.proofs.Closings.{first_stays, second_stays, closed_stays}
 
 -- the facts of a longer list

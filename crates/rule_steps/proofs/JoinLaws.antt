@@ -1,12 +1,11 @@
 -- Links that are joined with a fact at a place.
-use Rattle.std.proofs.Common.{◌≡◌, ℕ, ◌+◌, ◌<◌, List, length, get_or, Contains, Some, refl, subst, sym, ◌∙◌, ap, arith}
+use Rattle.std.proofs.Common.{◌≡◌, ℕ, ◌<◌, List, length, get_or, Some, refl, sym, ◌∙◌, ap, arith}
 use Rattle.std.proofs.lemmas.Option.{slice_get-get_or}
 use Rattle.concept_store.specs.Nodes.{IsNode}
-use Rattle.concept_store.specs.declared.types.Node.TheVariants.{And, Exists}
+use Rattle.concept_store.specs.declared.types.Node.TheVariants.{Exists}
 use Rattle.fact_table.specs.declared.types.Fact.{Fact}
 use Rattle.fact_table.specs.declared.types.Fact.TheVariants.{Sub, Link}
 use Rattle.fact_table.specs.declared.types.FactSide.{FactSide}
-use Rattle.fact_table.specs.declared.types.FactGroup.{FactGroup}
 use Rattle.fact_table.specs.declared.types.FactGroup.TheVariants.{Subs, Links}
 use Rattle.fact_table.specs.Groups.{group_at, node_at}
 use Rattle.fact_layers.specs.Tops.{Topped, whole}

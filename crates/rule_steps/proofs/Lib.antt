@@ -10,3 +10,6 @@ pub mod WalkLaws
 pub mod JoinLaws
 pub mod PairLaws
 pub mod DisjointLaws
+pub mod AnswerLaws
+pub mod BeginLaws
+pub mod RowLaws

@@ -1,5 +1,5 @@
 -- What a node is made of.
-use Rattle.std.proofs.Common.{◌≡◌, ℕ, List, Contains, Some, refl, subst, sym, ◌∙◌, arith}
+use Rattle.std.proofs.Common.{◌≡◌, ℕ, List, Contains, refl, subst, sym, ◌∙◌, arith}
 use Rattle.std.proofs.lemmas.Option.{same_Some}
 use Rattle.concept_store.specs.Nodes.{IsNode}
 use Rattle.concept_store.specs.declared.types.Node.{Node}

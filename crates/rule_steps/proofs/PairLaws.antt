@@ -1,31 +1,28 @@
 -- Rules of two premises without an axiom.
-use Rattle.std.proofs.Common.{◌≡◌, ℕ, ◌+◌, ◌<◌, ◌≤◌, ◌↔◌, Bool, true, false, List, length, Contains, Some, refl, subst, sym, ◌∙◌, ap, arith}
-use Rattle.std.proofs.lemmas.Option.{same_Some, slice_get_within}
+use Rattle.std.proofs.Common.{◌≡◌, ℕ, ◌+◌, ◌<◌, ◌≤◌, ◌↔◌, Bool, true, false, List, length, Contains, refl, subst, sym, ◌∙◌, ap, arith}
+use Rattle.std.proofs.lemmas.Option.{same_Some}
 use Rattle.concept_store.specs.Nodes.{IsNode}
 use Rattle.concept_store.specs.declared.types.Node.TheVariants.{And, Exists}
-use Rattle.concept_store.specs.declared.types.NodeAxiom.{NodeAxiom}
 use Rattle.fact_table.specs.declared.types.Fact.{Fact}
 use Rattle.fact_table.specs.declared.types.Fact.TheVariants.{Sub, Link}
 use Rattle.fact_table.specs.declared.types.Rule.{Rule}
 use Rattle.fact_table.specs.declared.types.Source.{Source}
-use Rattle.fact_table.specs.declared.types.Reason.{Reason}
 use Rattle.fact_layers.specs.Tops.{Topped, whole}
-use Rattle.el_rules.specs.Following.{IsPlacedBelow, IsEarlier}
+use Rattle.el_rules.specs.Following.{IsPlacedBelow}
 use Rattle.case_tables.specs.declared.types.Whole.{Whole}
 use Rattle.case_tables.specs.declared.types.Restriction.{Restriction}
 use Rattle.case_tables.specs.declared.types.Join.{Join}
 use Rattle.case_tables.specs.Named.{intersection_of}
 use Rattle.el_rules.specs.Saying.{Joins}
 use Rattle.rule_steps.specs.Counted.{GroundsView, IsCounting, IsCounted, nodes_of}
-use Rattle.rule_steps.specs.Growing.{facts_in, HasGrown, AreLinksWithin}
+use Rattle.rule_steps.specs.Growing.{facts_in}
 use Rattle.rule_steps.specs.Answering.{IsAt, IsAnsweredFirst, IsAnsweredSecond}
 use Rattle.rule_steps.specs.Inside.Entries.{AreEntriesOf, EachBelow}
 use Rattle.rule_steps.specs.Inside.Steps.{IsDerivedFrom, whole_reason, CanJoin, JoinsBy}
 use Rattle.rule_steps.specs.declared.walks.Joined.{Joined}
 use Rattle.rule_steps.proofs.JoinLaws.{can_fill, can_void, can_chain}
-use Rattle.rule_steps.proofs.GrowthLaws.{earlier_at, has_stays, placed_before}
+use Rattle.rule_steps.proofs.GrowthLaws.{earlier_at}
 use Rattle.rule_steps.proofs.LoopLaws.{each_all}
-use Rattle.rule_steps.proofs.PlaceLaws.{held_below}
 
 module _ (grounds : GroundsView) where
   -- an intersection, from its part at the place and its other part

@@ -1,13 +1,11 @@
 -- Rules of one premise and an axiom.
-use Rattle.std.proofs.Common.{◌≡◌, ℕ, ◌+◌, ◌≤◌, List, length, Contains, Some, refl, subst, sym, ◌∙◌, arith, false}
+use Rattle.std.proofs.Common.{◌≡◌, ℕ, ◌+◌, ◌≤◌, List, length, Contains, Some, refl, subst, sym, ◌∙◌, arith}
 use Rattle.std.specs.Prelude.{Option, slice_get}
 use Rattle.std.proofs.lemmas.Option.{same_Some}
-use Rattle.concept_store.specs.declared.types.NodeAxiom.{NodeAxiom}
 use Rattle.fact_table.specs.declared.types.Fact.{Fact}
 use Rattle.fact_table.specs.declared.types.Fact.TheVariants.{Sub, Link}
 use Rattle.fact_table.specs.declared.types.Rule.{Rule}
 use Rattle.fact_table.specs.declared.types.Source.{Source}
-use Rattle.fact_table.specs.declared.types.Proved.{Proved}
 use Rattle.fact_layers.specs.Tops.{Topped, whole}
 use Rattle.el_rules.specs.Saying.{Includes, IncludesRole, HasDomain}
 use Rattle.case_tables.specs.declared.types.Inclusion.{Inclusion}

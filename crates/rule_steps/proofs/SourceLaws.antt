@@ -1,6 +1,6 @@
 -- Sources that count, and entries of tables whose sources do.
-use Rattle.std.proofs.Common.{◌≡◌, ◌≢◌, ℕ, ◌<◌, ◌≤◌, ◌↔◌, ◌⊎◌, Bool, true, false, IsTrue, List, length, get_or, nat_cmp, Contains, refl, subst, sym, ◌∙◌, ⊎_elim, arith, inl, inr}
-use Rattle.std.specs.Prelude.{Result, Ok, Err, is_ok, Option, Some, None}
+use Rattle.std.proofs.Common.{◌≡◌, ℕ, ◌<◌, ◌≤◌, ◌↔◌, Bool, IsTrue, List, length, get_or, nat_cmp, Contains, refl, subst, sym, ◌∙◌, ⊎_elim, arith}
+use Rattle.std.specs.Prelude.{Result, Ok, Err, is_ok}
 use Rattle.std.specs.List.Sorted.{IsStrictlyIncreasing, IsBinarySearchResult}
 use Rattle.std.proofs.lemmas.Bool.{cases_lt}
 use Rattle.std.proofs.lemmas.List.{get_or_default}
@@ -10,8 +10,7 @@ use Rattle.std.proofs.lemmas.List.Sorted.{searched}
 use Rattle.el_logic.specs.declared.types.Part.{Part}
 use Rattle.concept_store.specs.declared.types.NodeAxiom.{NodeAxiom}
 use Rattle.fact_table.specs.declared.types.Source.{Source}
-use Rattle.el_rules.specs.Theories.{IsSourceOf, IsNamed}
-use Rattle.case_file.specs.Cases.{CaseView, theory_of}
+use Rattle.el_rules.specs.Theories.{IsSourceOf}
 use Rattle.case_tables.specs.Named.{IsNamedIn, HasRank}
 use Rattle.rule_steps.specs.Counted.{GroundsView, AreRanksOf, IsCounting}
 use Rattle.rule_steps.specs.Inside.Entries.{AreEntriesOf}

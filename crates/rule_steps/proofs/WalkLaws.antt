@@ -4,7 +4,7 @@ use Rattle.std.proofs.lemmas.Bool.{cases_lt, cases_eq}
 use Rattle.std.proofs.lemmas.Option.{same_Some}
 use Rattle.fact_table.specs.declared.types.Fact.{Fact}
 use Rattle.fact_table.specs.declared.types.FactGroup.{FactGroup}
-use Rattle.fact_table.specs.Places.{IsLastBelow, HasKeyAt, IsClear}
+use Rattle.fact_table.specs.Places.{IsLastBelow}
 use Rattle.rule_steps.specs.Answering.{IsAt}
 use Rattle.rule_steps.specs.Inside.Steps.{AreMetFrom}
 
@@ -19,9 +19,9 @@ module _ (key : Fact → FactGroup) (group : FactGroup) (initial : List Fact) (b
       AreMetFrom key initial group below bound P → AreMetFrom key initial group partner bound Q
   met_more current below partner here P Q stays last at weaker is met k fact low high was grouped = ⊎_elim
       (λ (less : k < below). ⊎_elim
-        (λ (same : k ≡ partner). subst Q (same_fact same (stays k fact was)) is)
-        (λ differs. let past : partner + 1 ≤ k = beyond differs in absurd (last.2 k past less (fact, stays k fact was, grouped)))
-        (cases_eq k partner))
+      (λ (same : k ≡ partner). subst Q (same_fact same (stays k fact was)) is)
+      (λ differs. let past : partner + 1 ≤ k = beyond differs in absurd (last.2 k past less (fact, stays k fact was, grouped)))
+      (cases_eq k partner))
       (λ more. weaker fact (met k fact more high was grouped))
       (cases_lt k below)
     where

@@ -35,7 +35,8 @@ IsSince (Some first) _ = ⊥
 -- an axiom that counts and is of such a source
 abbrev pub IsCountedSince : Option ℕ → GroundsView → NodeAxiom → Type 0
 IsCountedSince first grounds said = (source : Source)
-    × ((IsSince first source × IsCounting grounds source) × IsNamed (theory_of grounds.case) source said)
+    × ((IsSince first source × IsCounting grounds source)
+    × IsNamed (theory_of grounds.case) source said)
 
 -- an axiom that counts
 abbrev pub IsCounted : GroundsView → NodeAxiom → Type 0

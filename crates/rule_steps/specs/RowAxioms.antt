@@ -1,5 +1,5 @@
 -- The axioms that rows have.
-use Rattle.std.specs.Prelude.{◌≡◌, ℕ, List, [], ◌∷◌, All, slice_index_or, ⊤}
+use Rattle.std.specs.Prelude.{ℕ, List, [], ◌∷◌, All, slice_index_or, ⊤}
 use Rattle.concept_store.specs.declared.types.NodeAxiom.{NodeAxiom}
 use Rattle.concept_store.specs.declared.types.NodeAxiom.TheVariants.{SubClass, SubRole}
 

@@ -84,7 +84,7 @@ impl<'a> Grounds<'a> {
     }
 
     /// The node with a number.
-    pub fn node(&self, n: u32) -> Option<Node>
+    pub(crate) fn node(&self, n: u32) -> Option<Node>
         ensures { result ≡ slice_get self.now.case.store.nodes n }
     {
         let store = self.case.store();
@@ -96,7 +96,7 @@ impl<'a> Grounds<'a> {
     }
 
     /// What a node is within.
-    pub fn inclusions(&self, node: u32) -> &[Inclusion]
+    pub(crate) fn inclusions(&self, node: u32) -> &[Inclusion]
         ensures { AreEntriesOf self.now (λ e. e.source)
             (λ e said. Includes said node e.into) result.now }
     {
@@ -105,7 +105,7 @@ impl<'a> Grounds<'a> {
     }
 
     /// The disjointnesses in which a node is an operand.
-    pub fn operands(&self, node: u32) -> &[Operand]
+    pub(crate) fn operands(&self, node: u32) -> &[Operand]
         ensures { AreEntriesOf self.now (λ e. e.source)
             (λ e said. IsOperandAt said e.position node) result.now }
     {
@@ -114,7 +114,7 @@ impl<'a> Grounds<'a> {
     }
 
     /// What a role is within.
-    pub fn role_inclusions(&self, role: u32) -> &[RoleInclusion]
+    pub(crate) fn role_inclusions(&self, role: u32) -> &[RoleInclusion]
         ensures { AreEntriesOf self.now (λ e. e.source)
             (λ e said. IncludesRole said role e.into) result.now }
     {
@@ -123,7 +123,7 @@ impl<'a> Grounds<'a> {
     }
 
     /// The domains of a role.
-    pub fn domains(&self, role: u32) -> &[RoleDomain]
+    pub(crate) fn domains(&self, role: u32) -> &[RoleDomain]
         ensures { AreEntriesOf self.now (λ e. e.source)
             (λ e said. HasDomain said role e.domain) result.now }
     {
@@ -132,7 +132,7 @@ impl<'a> Grounds<'a> {
     }
 
     /// The reflexive roles.
-    pub fn reflexive(&self) -> &[(u32, Reflexive)]
+    pub(crate) fn reflexive(&self) -> &[(u32, Reflexive)]
         ensures { AreEntriesOf self.now (λ e. e.1.source)
             (λ e said. MakesReflexive said e.0) result.now }
     {
@@ -141,7 +141,7 @@ impl<'a> Grounds<'a> {
     }
 
     /// The joins of which a role is the first.
-    pub fn joins_from(&self, role: u32) -> &[Join]
+    pub(crate) fn joins_from(&self, role: u32) -> &[Join]
         ensures { AreEntriesOf self.now (λ e. e.source)
             (λ e said. (role ≡ e.first) × Joins said e.first e.second e.into) result.now }
     {
@@ -150,7 +150,7 @@ impl<'a> Grounds<'a> {
     }
 
     /// The joins of which a role is the second.
-    pub fn joins_by_second(&self, role: u32) -> &[Join]
+    pub(crate) fn joins_by_second(&self, role: u32) -> &[Join]
         ensures { AreEntriesOf self.now (λ e. e.source)
             (λ e said. (role ≡ e.second) × Joins said e.first e.second e.into) result.now }
     {
@@ -159,7 +159,7 @@ impl<'a> Grounds<'a> {
     }
 
     /// The intersections of which a node is a part.
-    pub fn wholes(&self, node: u32) -> &[Whole]
+    pub(crate) fn wholes(&self, node: u32) -> &[Whole]
         ensures { (entry : Whole) → Contains result.now entry
             ↔ IsNode self.now.case.store.nodes entry.node (intersection_of node entry) }
     {
@@ -168,7 +168,7 @@ impl<'a> Grounds<'a> {
     }
 
     /// What a role leads from into a node.
-    pub fn restrictions_into(&self, filler: u32) -> &[Restriction]
+    pub(crate) fn restrictions_into(&self, filler: u32) -> &[Restriction]
         ensures { (entry : Restriction) → Contains result.now entry ↔ ((filler ≡ entry.filler)
             × IsNode self.now.case.store.nodes entry.node (Exists entry.role entry.filler)) }
     {

@@ -25,7 +25,11 @@ use std::alloc::AllocError;
 fn whole_reason(is_left: bool, place: usize, other: usize) -> Reason
     ensures { result ≡ whole_reason is_left place other }
 {
-    let (first, second) = if is_left { (place, other) } else { (other, place) };
+    let (first, second) = if is_left {
+        (place, other)
+    } else {
+        (other, place)
+    };
     Reason {
         first,
         second,
@@ -80,7 +84,14 @@ pub fn fill_into(grounds: &Grounds, layers: &mut Layers, sub: PlacedSub) -> Resu
         (IsCounted grounds.now) sub.place (facts_in layers.new) Rule.Into) }
 {
     for entry in grounds.restrictions_into(sub.high) {
-        join_into(grounds, layers, sub.place, entry.role, sub.low, Joined::Filler(entry.node))?;
+        join_into(
+            grounds,
+            layers,
+            sub.place,
+            entry.role,
+            sub.low,
+            Joined::Filler(entry.node),
+        )?;
     }
     Ok(())
 }
@@ -229,7 +240,11 @@ fn chain_on(
 }
 
 /// What the rule `Chain` gives from a link as the first premise.
-pub fn chain_from(grounds: &Grounds, layers: &mut Layers, link: PlacedLink) -> Result<(), AllocError>
+pub fn chain_from(
+    grounds: &Grounds,
+    layers: &mut Layers,
+    link: PlacedLink,
+) -> Result<(), AllocError>
     requires { IsLinkAt link (facts_in layers.old) }
     ensures grown { HasGrown grounds.now layers.old layers.new }
     ensures answered { OnOk result (IsAnsweredFirst (nodes_of grounds.now)
@@ -268,7 +283,11 @@ fn chain_back(
 }
 
 /// What the rule `Chain` gives from a link as the second premise.
-pub fn chain_into(grounds: &Grounds, layers: &mut Layers, link: PlacedLink) -> Result<(), AllocError>
+pub fn chain_into(
+    grounds: &Grounds,
+    layers: &mut Layers,
+    link: PlacedLink,
+) -> Result<(), AllocError>
     requires { IsLinkAt link (facts_in layers.old) }
     ensures grown { HasGrown grounds.now layers.old layers.new }
     ensures answered { OnOk result (IsAnsweredSecond (nodes_of grounds.now)

@@ -99,8 +99,15 @@ pub fn lead_from_domain(
 
 // A fact by a rule without an axiom.
 fn opened(fact: Fact, rule: Rule, place: usize) -> Proved
-    ensures { result ≡ record { fact = fact; reason = record {
-        first = place; second = 0; source = Source.Nothing; rule = rule } } }
+    ensures { result ≡ record {
+      fact = fact;
+      reason = record {
+        first = place;
+        second = 0;
+        source = Source.Nothing;
+        rule = rule;
+      };
+    } }
 {
     Proved {
         fact,
@@ -127,8 +134,16 @@ fn open_both(
     ensures opened { OnOk result (IsOpened (nodes_of grounds.now) (facts_in layers.new)
         sub.low sub.high) }
 {
-    add(grounds, layers, opened(Fact::Sub(sub.low, left), Rule::Left, sub.place))?;
-    add(grounds, layers, opened(Fact::Sub(sub.low, right), Rule::Right, sub.place))
+    add(
+        grounds,
+        layers,
+        opened(Fact::Sub(sub.low, left), Rule::Left, sub.place),
+    )?;
+    add(
+        grounds,
+        layers,
+        opened(Fact::Sub(sub.low, right), Rule::Right, sub.place),
+    )
 }
 
 /// What the rules `Left`, `Right` and `Out` give: what the node is made of.

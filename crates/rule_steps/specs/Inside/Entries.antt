@@ -11,7 +11,8 @@ abbrev pub AreEntriesOf : {T : Type 0} → GroundsView → (T → Source) → (T
     → List T → Type 0
 AreEntriesOf grounds source_of Says entries = (entry : _) → IsCounting grounds (source_of entry)
     → Contains entries entry
-    ↔ ((said : NodeAxiom) × IsNamed (theory_of grounds.case) (source_of entry) said × Says entry said)
+    ↔ ((said : NodeAxiom) × IsNamed (theory_of grounds.case) (source_of entry) said
+    × Says entry said)
 
 -- each of the first elements is so
 abbrev pub EachBelow : {T : Type 0} → List T → ℕ → (T → Type 0) → Type 0

@@ -1,5 +1,5 @@
 -- One step: a fact that a rule gives, and walks over partners.
-use Rattle.std.specs.Prelude.{◌≡◌, ◌≢◌, ◌<◌, ◌≤◌, ℕ, Bool, true, false, List, Some, Contains, length, slice_get, ⊤}
+use Rattle.std.specs.Prelude.{◌≡◌, ◌≢◌, ◌<◌, ◌≤◌, ℕ, Bool, true, false, List, Contains, length, ⊤}
 use Rattle.concept_store.specs.Nodes.{IsNode}
 use Rattle.concept_store.specs.declared.types.Node.{Node}
 use Rattle.concept_store.specs.declared.types.Node.TheVariants.{And, Exists}
@@ -11,12 +11,12 @@ use Rattle.fact_table.specs.declared.types.Reason.{Reason}
 use Rattle.fact_table.specs.declared.types.Rule.{Rule}
 use Rattle.fact_table.specs.declared.types.Source.{Source}
 use Rattle.concept_store.specs.declared.types.NodeAxiom.{NodeAxiom}
-use Rattle.el_rules.specs.Saying.{Joins, Separates}
+use Rattle.el_rules.specs.Saying.{Joins, MakesReflexive, Separates}
 use Rattle.el_rules.specs.Theories.{IsNamedBy}
 use Rattle.el_rules.specs.Following.{FollowsByReason, IsEarlier, NamesNoMore}
 use Rattle.case_file.specs.Cases.{theory_of}
 use Rattle.case_tables.specs.declared.types.Operand.{Operand}
-use Rattle.rule_steps.specs.Counted.{GroundsView, nodes_of}
+use Rattle.rule_steps.specs.Counted.{GroundsView, IsCounted, nodes_of}
 use Rattle.rule_steps.specs.Answering.{IsAt}
 use Rattle.rule_steps.specs.declared.placed.PlacedSub.{PlacedSub}
 use Rattle.rule_steps.specs.declared.placed.PlacedLink.{PlacedLink}
@@ -48,7 +48,8 @@ abbrev pub IsLinkAt : PlacedLink → List Fact → Type 0
 IsLinkAt link facts = IsAt link.place facts (Link link.from link.role link.into)
 
 -- the elements of a group that a walk down from a bound has met are so
-abbrev pub AreMetFrom : (Fact → FactGroup) → List Fact → FactGroup → ℕ → ℕ → (Fact → Type 0) → Type 0
+abbrev pub AreMetFrom : (Fact → FactGroup) → List Fact → FactGroup → ℕ → ℕ → (Fact → Type 0)
+    → Type 0
 AreMetFrom key facts group below bound P = (k : ℕ) (fact : Fact) → below ≤ k → k < bound
     → IsAt k facts fact → key fact ≡ group → P fact
 
@@ -98,3 +99,8 @@ SeparatesBy grounds source c d = (said : NodeAxiom)
 -- the operands are at two positions of one axiom
 abbrev pub IsApart : Operand → Operand → Type 0
 IsApart one other = (one.source ≡ other.source) × (one.position ≢ other.position)
+
+-- each role that an axiom that counts makes reflexive leads from the node to itself
+abbrev pub HasReflexive : GroundsView → ℕ → List Fact → Type 0
+HasReflexive grounds node facts = (role : ℕ) (said : NodeAxiom) → IsCounted grounds said
+    → MakesReflexive said role → Contains facts (Link node role node)

@@ -1,9 +1,7 @@
 use Rattle.std.proofs.Common.{get_or}
-use Rattle.std.specs.Prelude.{None}
 use Rattle.std.proofs.lemmas.List.Elements.{Contains-get_or}
 use Rattle.std.proofs.lemmas.Option.{slice_get-get_or}
-use Rattle.fact_table.specs.declared.types.Fact.{Fact}
-use Rattle.fact_table.specs.declared.types.Fact.TheVariants.{Sub, Link}
+use Rattle.fact_table.specs.declared.types.Fact.TheVariants.{Sub}
 use Rattle.fact_table.specs.declared.types.Source.{Source}
 use Rattle.case_tables.specs.declared.types.Inclusion.{Inclusion}
 use Rattle.rule_steps.specs.Growing.{facts_in}

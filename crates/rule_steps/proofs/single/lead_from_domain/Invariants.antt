@@ -1,5 +1,5 @@
-use Rattle.std.specs.Prelude.{ℕ, None}
-use Rattle.fact_table.specs.declared.types.Fact.TheVariants.{Sub, Link}
+use Rattle.std.specs.Prelude.{None}
+use Rattle.fact_table.specs.declared.types.Fact.TheVariants.{Sub}
 use Rattle.case_tables.specs.declared.types.RoleDomain.{RoleDomain}
 use Rattle.rule_steps.specs.Growing.{facts_in, HasGrown}
 use Rattle.rule_steps.specs.Inside.Entries.{EachBelow}

@@ -1,6 +1,5 @@
-use Rattle.std.proofs.Common.{◌∙◌, ap, subst, sym, Some}
+use Rattle.std.proofs.Common.{subst, sym}
 use Rattle.concept_store.specs.Nodes.{IsNode}
-use Rattle.concept_store.specs.declared.types.Node.{Node}
 use Rattle.fact_layers.specs.Tops.{whole}
 use Rattle.rule_steps.specs.Counted.{nodes_of}
 use Rattle.rule_steps.specs.Inside.Steps.{IsDerivedFrom}

@@ -1,6 +1,5 @@
 use Rattle.std.proofs.Common.{subst, sym, Contains}
 use Rattle.std.proofs.lemmas.Result.{on_ok_weaker}
-use Rattle.fact_table.specs.declared.types.Fact.{Fact}
 use Rattle.fact_table.specs.declared.types.Fact.TheVariants.{Sub}
 use Rattle.fact_table.specs.declared.types.Proved.{Proved}
 use Rattle.fact_layers.specs.Tops.{whole}

@@ -1,5 +1,4 @@
-use Rattle.std.proofs.Common.{◌∙◌, ◌+◌, Contains, ℕ, subst, sym, ap, refl, arith}
-use Rattle.fact_table.specs.declared.types.Fact.{Fact}
+use Rattle.std.proofs.Common.{◌+◌, Contains, subst, sym, refl, arith}
 use Rattle.fact_table.specs.declared.types.Fact.TheVariants.{Link}
 use Rattle.fact_table.specs.declared.types.FactSide.{FactSide}
 use Rattle.fact_table.specs.declared.types.FactGroup.TheVariants.{Links}

@@ -1,5 +1,4 @@
 use Rattle.std.proofs.Common.{◌+◌, ◌≤◌, Contains}
-use Rattle.fact_table.specs.declared.types.Fact.{Fact}
 use Rattle.fact_table.specs.declared.types.FactSide.{FactSide}
 use Rattle.fact_table.specs.declared.types.FactGroup.TheVariants.{Links}
 use Rattle.fact_table.specs.Groups.{group_at, node_at}

@@ -1,4 +1,4 @@
-use Rattle.std.proofs.Common.{◌≡◌, ◌∙◌, ℕ, subst}
+use Rattle.std.proofs.Common.{◌∙◌, ℕ, subst}
 use Rattle.concept_store.specs.declared.types.NodeAxiom.{NodeAxiom}
 use Rattle.el_rules.specs.Saying.{MakesReflexive}
 use Rattle.case_tables.specs.declared.types.Reflexive.{Reflexive}

@@ -1,4 +1,4 @@
-use Rattle.std.proofs.Common.{◌≡◌, ◌∙◌, ◌↔◌, Contains, subst}
+use Rattle.std.proofs.Common.{◌∙◌, ◌↔◌, Contains, subst}
 use Rattle.concept_store.specs.Nodes.{IsNode}
 use Rattle.case_tables.specs.Named.{intersection_of}
 use Rattle.case_tables.specs.declared.types.Whole.{Whole}
