@@ -19,6 +19,7 @@ ghost use Rattle.saturate.specs.Inside.Saturated.{grounds_of, AddsRanks};
 use case_file::models_have_readings;
 use concept_store::nodes_stand_in_order;
 use el_rules::what_follows_is_true;
+use rule_steps::{further_rows_need_only_their_inclusions, rows_have_inclusions};
 
 /// Facts that follow show that a node is empty which they put within `owl:Nothing`.
 pub fn facts_show_emptiness()
@@ -56,4 +57,7 @@ pub fn closed_tables_are_closed_for_more_rows()
         → let grounds = grounds_of table.case ranks in
         let nodes = table.case.store.nodes in
         AreBegunBelow nodes (IsCounted grounds) (length nodes) (facts_of table.items ++ more) }
-{}
+{
+    rows_have_inclusions();
+    further_rows_need_only_their_inclusions();
+}

@@ -5,7 +5,7 @@ ghost use Rattle.rule_steps.specs.Growing.{facts_in, HasGrown};
 ghost use Rattle.saturate.specs.Inside.Rows.{AreAnsweredByRows};
 
 use fact_layers::Layers;
-use rule_steps::{Grounds, answer_rows};
+use rule_steps::{Grounds, answer_rows, growing_takes_nothing_away};
 use std::alloc::AllocError;
 
 /// Adds what the axioms of the rows from a rank on give from the facts at places below one.
@@ -19,6 +19,7 @@ pub fn answer_old(
     ensures grown { HasGrown grounds.now layers.old layers.new }
     ensures answered { OnOk result (AreAnsweredByRows grounds.now first below (facts_in layers.new)) }
 {
+    growing_takes_nothing_away();
     for place in 0..below {
         answer_rows(grounds, layers, place, first)?;
     }

@@ -1,5 +1,5 @@
 -- What the rows that are tested give from the facts of a snapshot.
-use Rattle.std.specs.Prelude.{◌<◌, ◌≤◌, ◌++◌, ℕ, List, Some, All}
+use Rattle.std.specs.Prelude.{◌<◌, ℕ, List, Some}
 use Rattle.fact_table.specs.declared.types.Fact.{Fact}
 use Rattle.rule_steps.specs.Counted.{GroundsView, IsCountedSince, nodes_of}
 use Rattle.rule_steps.specs.Answering.{IsAnsweredByInclusions}

@@ -8,22 +8,13 @@ use Rattle.case_file.specs.Cases.{CaseView}
 use Rattle.case_tables.specs.Tables.{TableLists}
 use Rattle.closed_model.specs.ClosedTables.{TableView}
 use Rattle.rule_steps.specs.Counted.{GroundsView, IsCounted, nodes_of}
-use Rattle.rule_steps.specs.Growing.{AreDerived, AreLinksWithin, facts_in}
-use Rattle.rule_steps.specs.Answering.{AreBegunBelow, AreClosedBelow}
+use Rattle.rule_steps.specs.Growing.{AreDerived, facts_in}
+use Rattle.rule_steps.specs.Answering.{AreBegunBelow}
 
--- each fact follows, links are by roles of the case, and all nodes are begun
+-- each fact follows, and all nodes are begun
 pub record AreBegun (grounds : GroundsView) (layers : Topped) : Type 0 where
-  pub follows : AreDerived grounds (whole layers)
-  pub links : AreLinksWithin (length grounds.case.store.roles) (facts_in layers)
+  pub derived : AreDerived grounds (whole layers)
   pub begun : AreBegunBelow (nodes_of grounds) (IsCounted grounds) (length (nodes_of grounds))
-      (facts_in layers)
-
--- and all places are closed
-pub record AreSaturated (grounds : GroundsView) (layers : Topped) : Type 0 where
-  pub follows : AreDerived grounds (whole layers)
-  pub begun : AreBegunBelow (nodes_of grounds) (IsCounted grounds) (length (nodes_of grounds))
-      (facts_in layers)
-  pub closed : AreClosedBelow (nodes_of grounds) (IsCounted grounds) (length (facts_in layers))
       (facts_in layers)
 
 -- a case, its tables, ranks and facts

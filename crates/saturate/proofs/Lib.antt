@@ -1,0 +1,6 @@
+mod Giving
+mod Places
+mod RoleBounds
+mod RoleLaws
+mod EmptyLaws
+mod OldFacts
