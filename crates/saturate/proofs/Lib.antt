@@ -4,3 +4,5 @@ mod RoleBounds
 mod RoleLaws
 mod EmptyLaws
 mod OldFacts
+mod ClashLaws
+mod LoopLaws
