@@ -6,3 +6,7 @@ mod EmptyLaws
 mod OldFacts
 mod ClashLaws
 mod LoopLaws
+mod ReadyLaws
+mod EnterLaws
+mod DecideLaws
+mod RankLaws

@@ -5,6 +5,7 @@ mod clashes;
 mod closing;
 mod laws;
 mod rows;
+mod saturation;
 mod starting;
 mod tables;
 mod testing;

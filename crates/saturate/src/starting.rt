@@ -8,33 +8,24 @@ ghost use Rattle.fact_layers.specs.Tops.{whole};
 ghost use Rattle.case_file.specs.Incoherence.{IsIncoherentFor};
 ghost use Rattle.case_tables.specs.Tables.{AreTablesOf};
 ghost use Rattle.closed_model.specs.ClosedTables.{IsClosedTable};
+ghost use Rattle.saturate.specs.declared.types.StartFault.TheVariants.{Incoherent};
 ghost use Rattle.saturate.specs.Decisions.{ShowsFirstEmpty, IsStartFault, start_ran_out};
-ghost use Rattle.saturate.specs.Inside.Saturated.{AreBegun, table_of};
+ghost use Rattle.saturate.specs.Inside.Saturated.{table_of};
 
 use crate::StartFault;
 use crate::clashes::first_clash;
-use crate::closing::{begin_all, close, close_until_clash};
 use crate::laws::facts_show_emptiness;
+use crate::saturation::{begun, saturate_all, saturate_until_clash};
 use crate::tables::frozen;
-use case_file::Case;
+use case_file::{Case, cases_have_nodes};
 use case_tables::{Tables, build_tables};
 use closed_model::{ClosedTable, a_closed_table_shows_coherence, closed_facts_show_members};
 use derivation::{Derivation, reasons_name_earlier_places, trace, traces_are_good};
 use el_logic::{Numbers, Part};
-use fact_layers::{Base, Layers};
-use rule_steps::{Grounds, facts_closed_to_the_end_are_closed};
+use fact_layers::Layers;
+use rule_steps::Grounds;
 use std::alloc::{AllocError, Global};
 use std::sync::Arc;
-
-// The facts that the rules without premises give.
-fn begun(alloc: Global, grounds: &Grounds) -> Result<Layers, AllocError>
-    ensures { IfOk result (AreBegun grounds.now) }
-{
-    let base = Base::empty(alloc)?;
-    let mut layers = Layers::over(alloc, base)?;
-    begin_all(grounds, &mut layers)?;
-    Ok(layers)
-}
 
 // What follows from both documents, if they leave no class empty.
 fn coherent_facts(
@@ -47,12 +38,11 @@ fn coherent_facts(
         (λ layers. IsClosedTable (table_of case.now tables.now [] (whole layers)))) }
 {
     facts_show_emptiness();
-    facts_closed_to_the_end_are_closed();
     let _case = case.store();
     let none: &[u32] = &[];
     let grounds = Grounds::new(case, tables, Part::Both, none);
     let mut layers = begun(alloc, &grounds)?;
-    match close_until_clash(&grounds, &mut layers, case, 0)? {
+    match saturate_until_clash(&grounds, &mut layers, case, 0)? {
         None => Ok(Some(layers)),
         Some(_) => Ok(None),
     }
@@ -70,20 +60,32 @@ fn first_empty(
         (λ empty. ShowsFirstEmpty case.now part empty.0 empty.1)) }
 {
     facts_show_emptiness();
-    facts_closed_to_the_end_are_closed();
     closed_facts_show_members();
+    cases_have_nodes();
     traces_are_good();
     reasons_name_earlier_places();
     let _case = case.store();
     let none: &[u32] = &[];
     let grounds = Grounds::new(case, tables, part, none);
     let mut layers = begun(alloc, &grounds)?;
-    close(&grounds, &mut layers, 0)?;
-    let Some((class, place)) = first_clash(case, &layers) else {
+    saturate_all(&grounds, &mut layers, 0)?;
+    let Some(found) = first_clash(case, &layers) else {
         return Ok(None);
     };
-    let derivation = trace(alloc, &layers, place)?;
-    Ok(Some((class, derivation)))
+    let derivation = trace(alloc, &layers, found.1)?;
+    Ok(Some((found.0, derivation)))
+}
+
+// The fault of a part with its first empty class and a derivation.
+fn fault_of(part: Part, empty: (u32, Derivation)) -> StartFault
+    ensures { result ≡ Incoherent part empty.0 empty.1 }
+{
+    let (class, derivation) = empty;
+    StartFault::Incoherent {
+        part,
+        class,
+        derivation,
+    }
 }
 
 // The fault of documents that are incoherent together.
@@ -93,27 +95,15 @@ fn first_fault(alloc: Global, case: &Case, tables: &Tables) -> Result<StartFault
     ensures { IfOk result (IsStartFault case.now) }
 {
     match first_empty(alloc, case, tables, Part::Left)? {
-        Some((class, derivation)) => return Ok(StartFault::Incoherent {
-            part: Part::Left,
-            class,
-            derivation,
-        }),
+        Some(empty) => return Ok(fault_of(Part::Left, empty)),
         None => {}
     }
     match first_empty(alloc, case, tables, Part::Right)? {
-        Some((class, derivation)) => return Ok(StartFault::Incoherent {
-            part: Part::Right,
-            class,
-            derivation,
-        }),
+        Some(empty) => return Ok(fault_of(Part::Right, empty)),
         None => {}
     }
     match first_empty(alloc, case, tables, Part::Both)? {
-        Some((class, derivation)) => Ok(StartFault::Incoherent {
-            part: Part::Both,
-            class,
-            derivation,
-        }),
+        Some(empty) => Ok(fault_of(Part::Both, empty)),
         None => unreachable!(),
     }
 }

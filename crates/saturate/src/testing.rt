@@ -1,61 +1,75 @@
 //! Rows that are added to a closed table.
 
-ghost use Rattle.std.specs.Prelude.{◌≡◌, ◌<◌, ◌++◌, ◌∷◌, [], IfOk, MatchOption, All, length};
+ghost use Rattle.std.specs.Prelude.{◌≡◌, ◌<◌, ◌++◌, ◌∷◌, [], IfOk, All, length, slice_get};
 ghost use Rattle.std.specs.List.Sorted.{IsStrictlyIncreasing};
-ghost use Rattle.fact_layers.specs.Tops.{whole};
-ghost use Rattle.closed_model.specs.ClosedTables.{AreRanksOf, IsClosedTable};
-ghost use Rattle.rule_steps.specs.Growing.{AreDerived, facts_in};
+ghost use Rattle.closed_model.specs.ClosedTables.{AreRanksOf};
 ghost use Rattle.saturate.specs.Decisions.{IsVerdict};
-ghost use Rattle.saturate.specs.Inside.Clashes.{HasClashAt};
-ghost use Rattle.saturate.specs.Inside.Saturated.{AddsRanks, grounds_of, table_of};
+ghost use Rattle.saturate.specs.Inside.Saturated.{AddsRanks};
 
 use crate::Verdict;
-use crate::closing::close_until_clash;
-use crate::laws::{closed_tables_are_closed_for_more_rows, facts_show_emptiness, links_are_by_roles};
-use crate::rows::answer_old;
+use crate::laws::facts_show_emptiness;
+use crate::rows::enter_rows;
+use crate::saturation::saturate_until_clash;
 use crate::tables::frozen;
 use closed_model::{ClosedTable, a_closed_table_shows_coherence};
-use derivation::{Derivation, reasons_name_earlier_places, trace, traces_are_good};
+use derivation::{reasons_name_earlier_places, trace, traces_are_good};
 use el_logic::{Numbers, Part};
 use fact_layers::Layers;
-use fact_table::FactsByPlace;
-use rule_steps::{Grounds, facts_closed_to_the_end_are_closed};
+use rule_steps::Grounds;
 use std::alloc::{AllocError, Global};
 
-// Adds what follows from further rows to the facts of a table, until a class is empty.
-fn add_rows(
+// The verdict on ranks that add to those of a table, the first of the added ones given.
+fn test_from(
+    alloc: Global,
     snapshot: &ClosedTable,
     ranks: &[u32],
     first: u32,
-    layers: &mut Layers,
-) -> Result<Option<usize>, AllocError>
-    requires facts { whole layers.old ≡ snapshot.now.items }
+) -> Result<Verdict, AllocError>
     requires ranks { AreRanksOf snapshot.now.case ranks.now }
     requires added { AddsRanks snapshot.now.ranks first ranks.now }
-    ensures follows { AreDerived (grounds_of snapshot.now.case ranks.now) (whole layers.new) }
-    ensures closed { IfOk result (λ found. MatchOption found
-        (IsClosedTable (table_of snapshot.now.case snapshot.now.tables ranks.now
-        (whole layers.new)))
-        (HasClashAt snapshot.now.case (facts_in layers.new))) }
+    ensures { IfOk result (IsVerdict snapshot.now.case ranks.now) }
 {
-    closed_tables_are_closed_for_more_rows();
-    facts_closed_to_the_end_are_closed();
-    links_are_by_roles();
+    a_closed_table_shows_coherence();
+    facts_show_emptiness();
+    traces_are_good();
+    reasons_name_earlier_places();
     let case = snapshot.case();
     let _case = case.store();
     let grounds = Grounds::new(case, snapshot.tables(), Part::Both, ranks);
-    let below = layers.len();
-    answer_old(&grounds, layers, below, first)?;
-    close_until_clash(&grounds, layers, case, below)
+    let mut layers = Layers::over(alloc, snapshot.base().share(alloc)?)?;
+    let from = enter_rows(&grounds, snapshot, ranks, &mut layers, first)?;
+    match saturate_until_clash(&grounds, &mut layers, case, from)? {
+        Some(clash) => Ok(Verdict::No(trace(alloc, &layers, clash)?)),
+        None => {
+            let ranks = Numbers::from_slice(alloc, ranks)?;
+            Ok(Verdict::Yes(frozen(alloc, case, snapshot.tables(), ranks, layers)?))
+        }
+    }
+}
+
+// The verdict on a table's own ranks.
+fn unchanged(alloc: Global, snapshot: &ClosedTable) -> Result<Verdict, AllocError>
+    ensures { IfOk result (IsVerdict snapshot.now.case snapshot.now.ranks) }
+{
+    a_closed_table_shows_coherence();
+    let _case = snapshot.case().store();
+    Ok(Verdict::Yes(snapshot.share(alloc)?))
 }
 
 // Ranks followed by further ones.
-fn followed_by(alloc: Global, ranks: &[u32], more: &[u32]) -> Result<Numbers, AllocError>
-    ensures { IfOk result (λ all. all ≡ ranks.now ++ more.now) }
+fn followed_by(alloc: Global, ranks: &[u32], more: &[u32]) -> Result<Vec<u32>, AllocError>
+    ensures { IfOk result (λ all. all.items ≡ ranks.now ++ more.now) }
 {
     let mut all = Vec::from_slice(alloc, ranks)?;
     all.extend_from_slice(more)?;
-    Ok(Numbers::from_vec(all))
+    Ok(all)
+}
+
+// The first rank, if there is one.
+fn first_of(ranks: &[u32]) -> Option<u32>
+    ensures { result ≡ slice_get ranks.now 0 }
+{
+    ranks.first().copied()
 }
 
 /// Whether several rows can be added to those of a table. Their ranks ascend and follow the
@@ -70,20 +84,13 @@ pub fn test_block(
     requires after { All (λ old. All (λ rank. old < rank) ranks.now) snapshot.now.ranks }
     ensures { IfOk result (IsVerdict snapshot.now.case (snapshot.now.ranks ++ ranks.now)) }
 {
-    a_closed_table_shows_coherence();
-    facts_show_emptiness();
-    traces_are_good();
-    reasons_name_earlier_places();
-    let case = snapshot.case();
-    let _case = case.store();
-    let Some(first) = ranks.first() else {
-        return Ok(Verdict::Yes(snapshot.share(alloc)?));
-    };
-    let all = followed_by(alloc, snapshot.ranks(), ranks)?;
-    let mut layers = Layers::over(alloc, snapshot.base().share(alloc)?)?;
-    match add_rows(snapshot, all.as_slice(), *first, &mut layers)? {
-        Some(clash) => Ok(Verdict::No(trace(alloc, &layers, clash)?)),
-        None => Ok(Verdict::Yes(frozen(alloc, case, snapshot.tables(), all, layers)?)),
+    let _case = snapshot.case();
+    match first_of(ranks) {
+        None => unchanged(alloc, snapshot),
+        Some(first) => {
+            let all = followed_by(alloc, snapshot.ranks(), ranks)?;
+            test_from(alloc, snapshot, all.as_slice(), first)
+        }
     }
 }
 
