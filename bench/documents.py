@@ -10,6 +10,8 @@ from driver import run_driver
 
 DRIVER = """#![tactic(auto)]
 
+ghost use Rattle.std.specs.Prelude.{◌≡◌};
+
 use anyhow::Result;
 use ofn_axiom::{Mode, Names, read_document};
 use std::alloc::Global;
@@ -32,7 +34,10 @@ fn made(alloc: Global, size: usize) -> Result<Vec<u8>> {
     Ok(text)
 }
 
-fn names(alloc: Global, limits: &Limits) -> Names {
+fn names(alloc: Global, limits: &Limits) -> Names
+    ensures classes { result.classes.most ≡ limits.now.classes }
+    ensures properties { result.roles.most ≡ limits.now.properties }
+{
     Names {
         classes: NameTable::new(alloc, limits.classes),
         roles: NameTable::new(alloc, limits.properties),
@@ -60,7 +65,8 @@ fn seconds(rt: &HostRuntime) -> Result<f64> {
     let Some(nanoseconds) = counts.as_str().split(' ').next() else {
         return Ok(0.0);
     };
-    Ok(nanoseconds.parse::<u64>()? as f64 / 1e9)
+    let microseconds = u32::try_from(nanoseconds.parse::<u64>()? / 1_000)?;
+    Ok(microseconds as f64 / 1e6)
 }
 
 fn measure(rt: &HostRuntime, size: usize) -> Result<()> {

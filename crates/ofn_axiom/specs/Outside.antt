@@ -85,7 +85,8 @@ pub data IsChainOutside (text : List ℕ) (prefixes : Prefixes) : Item → ℕ �
       IsAmongProperties text prefixes (i ∷ j ∷ is) at outside →
       IsChainOutside text prefixes (item.Group (Some word) (i ∷ j ∷ is) start end) at outside
 
--- operands of the right number, of which each fits, and one is the first in which something is outside
+-- operands of the right number, of which each fits, and one is the first in which something is
+-- outside
 pub data IsInOperands (text : List ℕ) (prefixes : Prefixes) :
     Head → List Item → ℕ → HeadId → Type 0 where
   in_sub_class : (i j : Item) (at : ℕ) (outside : HeadId) → AllFit text (i ∷ j ∷ []) →
@@ -119,7 +120,8 @@ pub data IsInOperands (text : List ℕ) (prefixes : Prefixes) :
       IsProperty text prefixes i iri → IsClassOutside text prefixes j at outside →
       IsInOperands text prefixes head.ObjectPropertyDomain (i ∷ j ∷ []) at outside
 
--- a direct item whose head is outside, that declares a group whose head is, or an operand of which is
+-- a direct item whose head is outside, that declares a group whose head is, or that has an operand
+-- in which something is
 pub data IsOutside (text : List ℕ) (prefixes : Prefixes) : Item → ℕ → HeadId → Type 0 where
   direct_outside : (i : Item) (at : ℕ) (outside : HeadId) → IsHeadOutside text i at outside →
       IsOutside text prefixes i at outside
@@ -130,4 +132,5 @@ pub data IsOutside (text : List ℕ) (prefixes : Prefixes) : Item → ℕ → He
   operand_outside : (word : Token) (h : Head) (annotations operands : List Item)
       (start end at : ℕ) (outside : HeadId) → IsHead text word h → AreAnnotations text annotations →
       IsInOperands text prefixes h operands at outside →
-      IsOutside text prefixes (item.Group (Some word) (annotations ++ operands) start end) at outside
+      IsOutside text prefixes (item.Group (Some word) (annotations ++ operands) start end) at
+      outside

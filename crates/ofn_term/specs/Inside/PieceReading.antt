@@ -32,22 +32,28 @@ abbrev pub bracket_fault : ℕ → ℕ → ℕ → List Token → Option TermFau
 bracket_fault most depth first [] = if depth == 0 then None else Some (fault.Unclosed first)
 bracket_fault most depth first (token ∷ tokens) =
     if is_open token then
-    (if nat_lt depth most then bracket_fault most (depth + 1) (first_open depth first token.start) tokens else Some (fault.TooDeep token.start)) else
+    (if nat_lt depth most then
+    bracket_fault most (depth + 1) (first_open depth first token.start) tokens else
+    Some (fault.TooDeep token.start)) else
     if is_close token then
-    (if depth == 0 then Some (fault.Unopened token.start) else bracket_fault most (depth - 1) first tokens) else
+    (if depth == 0 then Some (fault.Unopened token.start) else
+    bracket_fault most (depth - 1) first tokens) else
     bracket_fault most depth first tokens
 
 -- the fault is this one, unless memory ran out
 abbrev pub IsFaultUnlessMemory : Option TermFault → TermFault → Type 0
-IsFaultUnlessMemory expected found = OrOutOfMemory term_ran_out (λ other. expected ≡ Some other) found
+IsFaultUnlessMemory expected found =
+    OrOutOfMemory term_ran_out (λ other. expected ≡ Some other) found
 
 -- a token and what is behind it open a group: a bracket with the word before it, and what is inside
 pub record IsOpening (text : List ℕ) (token : Token) (behind : List Token) (word : Option Token)
     (bracket : Token) : Type 0 where
   pub inside : List Token
   pub has : HasTokens text bracket.end inside None
-  pub spelled : pieces_of text (token ∷ behind) ≡ opening_pieces word bracket.start ++ pieces_of text inside
-  pub faults : (most depth first : ℕ) → bracket_fault most depth first (token ∷ behind) ≡ bracket_fault most depth first (bracket ∷ inside)
+  pub spelled : pieces_of text (token ∷ behind) ≡
+      opening_pieces word bracket.start ++ pieces_of text inside
+  pub faults : (most depth first : ℕ) → bracket_fault most depth first (token ∷ behind) ≡
+      bracket_fault most depth first (bracket ∷ inside)
 
 -- tokens are read into items up to one of them, and there brackets are as before
 pub record IsReadTo (text : List ℕ) (most depth first : ℕ) (tokens : List Token) (items : List Item)
@@ -63,4 +69,5 @@ pub record IsGroupRead (text : List ℕ) (most depth first : ℕ) (bracket : Tok
   pub rest : List Token
   pub begins : Begins text there rest
   pub spelled : pieces_of text behind ≡ pieces items ++ closing end ∷ pieces_of text rest
-  pub faults : bracket_fault most depth first (bracket ∷ behind) ≡ bracket_fault most depth first rest
+  pub faults : bracket_fault most depth first (bracket ∷ behind) ≡
+      bracket_fault most depth first rest

@@ -15,7 +15,8 @@ pub record AreAllTokens (text : List ℕ) : Type 0 where
 
 -- the text has tokens up to an offset at which none begins
 abbrev pub IsLexFault : List ℕ → TermFault → Type 0
-IsLexFault text (fault.Lex offset) = (tokens : List Token) × HasTokens text 0 tokens (Some (record { offset = offset }))
+IsLexFault text (fault.Lex offset) =
+    (tokens : List Token) × HasTokens text 0 tokens (Some (record { offset = offset }))
 IsLexFault text _ = ⊥
 
 -- the tokens begin with this one, and the text has the others from its end on
