@@ -1,5 +1,5 @@
 -- Items that are read from the tokens of a text, one at a time.
-use Rattle.std.proofs.Common.{◌≡◌, ℕ, ◌+◌, ◌-◌, ◌<◌, ◌≤◌, Bool, true, false, List, [], ◌∷◌, ◌++◌, length, IfSome, refl, ap, sym, subst, ◌∙◌, arith}
+use Rattle.std.proofs.Common.{◌≡◌, ℕ, ◌+◌, ◌-◌, ◌<◌, ◌≤◌, true, false, List, [], ◌∷◌, ◌++◌, length, IfSome, refl, ap, sym, subst, ◌∙◌, arith}
 use Rattle.std.specs.Prelude.{Option, Some, None, nat_lt, ◌==◌}
 use Rattle.std.proofs.lemmas.Bool.Decides.{nat_tests}
 use Rattle.ofn_lex.specs.declared.token.Token.{Token}
@@ -9,7 +9,7 @@ use Rattle.ofn_term.specs.declared.fault.TermFault.TheVariants as fault
 use Rattle.ofn_term.specs.declared.item.Item.{Item}
 use Rattle.ofn_term.specs.Words.{is_open, is_close}
 use Rattle.ofn_term.specs.Writing.{Piece, closing, atom, pieces, opening_pieces}
-use Rattle.ofn_term.specs.Inside.TokenReading.{IsFirst, Begins}
+use Rattle.ofn_term.specs.Inside.TokenReading.{Begins}
 use Rattle.ofn_term.specs.Inside.PieceReading.{pieces_of, first_open, bracket_fault, IsFaultUnlessMemory, IsOpening, IsReadTo, IsGroupRead}
 use Rattle.ofn_term.proofs.Closing.{closing_is_not_open, fault_at_open, fault_behind_group}
 use Rattle.ofn_term.proofs.Pushing.{none_yet}

@@ -82,30 +82,41 @@ fn opening_of(text: &[u8], token: Token) -> Option<Opening>
 }
 
 #[tactic(auto, using(crate::proofs::Pushing::push_atom))]
-fn push_atom(items: &mut Items, token: Token) -> Result<(), AllocError>
+fn push_atom(items: &mut Vec<Item>, token: Token) -> Result<(), AllocError>
     ensures { IfOk result (λ _. (rest : List Piece) →
-        pieces items.new ++ rest ≡ pieces items.old ++ atom token ∷ rest) }
+        pieces items.new.items ++ rest ≡ pieces items.old.items ++ atom token ∷ rest) }
 {
-    items.push(Item::Atom(token))
+    items.push(Item::Atom(token))?;
+    Ok(())
 }
 
 #[tactic(auto, using(crate::proofs::Pushing::push_group))]
 fn push_group(
-    items: &mut Items,
+    items: &mut Vec<Item>,
     head: Option<Token>,
     inner: Items,
     start: usize,
     end: usize,
 ) -> Result<(), AllocError>
-    ensures { IfOk result (λ _. (rest : List Piece) → pieces items.new ++ rest ≡
-        pieces items.old ++ (opening_pieces head start ++ (pieces inner ++ closing end ∷ rest))) }
+    ensures { IfOk result (λ _. (rest : List Piece) → pieces items.new.items ++ rest ≡
+        pieces items.old.items ++ (opening_pieces head start ++ (pieces inner ++ closing end ∷ rest))) }
 {
     items.push(Item::Group {
         head,
         items: inner,
         start,
         end,
-    })
+    })?;
+    Ok(())
+}
+
+// Items with no room for more: most groups have few.
+fn without_room(items: Vec<Item>) -> Items
+    ensures { result ≡ items.items }
+{
+    let mut items = items;
+    items.shrink_to_fit();
+    Items::from_vec(items)
 }
 
 #[cycle(groups)]
@@ -170,14 +181,14 @@ pub fn items_at(
         Begins text.now begin tokens →
         IsFaultUnlessMemory (bracket_fault level.most level.depth level.first tokens) fault) }
 {
-    let mut items = Items::new(alloc);
+    let mut items = Vec::new(alloc);
     let mut here = begin;
     loop {
         let Some(token) = here else {
-            return Ok((items, None));
+            return Ok((without_room(items), None));
         };
         if is_close(token) {
-            return Ok((items, Some(token)));
+            return Ok((without_room(items), Some(token)));
         }
         let Some(opening) = opening_of(text, token) else {
             push_atom(&mut items, token)?;

@@ -1,4 +1,4 @@
-use Rattle.std.proofs.Common.{ℕ, ◌≡◌, ◌<◌, ◌≤◌, ◌+◌, true, List, length, IfSome, subst, refl, sym, ap, arith}
+use Rattle.std.proofs.Common.{◌≡◌, ◌<◌, ◌≤◌, ◌+◌, true, length, IfSome, subst, arith}
 use Rattle.std.specs.Prelude.{Option, Some}
 use Rattle.ofn_lex.specs.declared.token.Token.{Token}
 use Rattle.ofn_term.specs.Words.{is_close}
@@ -28,7 +28,7 @@ pub items_at-loop-here-init : goal.items_at-loop-here-init
 items_at-loop-here-init t c =
     let a = c.args in
     record {
-      read = none_read a.text.now a.level.most a.level.depth a.level.first a.begin c.new-items.result c.new-items.ensures;
+      read = none_read a.text.now a.level.most a.level.depth a.level.first a.begin c.new-items.result.items c.new-items.ensures.items;
       within = c.requires;
       past = λ n h. h;
       fewer = omega arith;
@@ -49,9 +49,9 @@ items_at-loop-here-preserved t c =
     let before : left text (Some token) ≤ left text a.begin = subst (λ (o : Option Token). left text o ≤ left text a.begin) c.in-Some.is so_far.fewer in
     record {
       read = λ tokens begins.
-          group_read text a.level.most a.level.depth a.level.first tokens c.loop-here.items c.push_group.new.items group.items token bracket opening.head group.next group.end
+          group_read text a.level.most a.level.depth a.level.first tokens c.loop-here.items.items c.push_group.new.items.items group.items token bracket opening.head group.next group.end
           c.in-Some-opening_of.ensures.opening c.in-Ok.ensures.read c.in_ok-push_group.ensures
-          (subst (λ (o : Option Token). IsReadTo text a.level.most a.level.depth a.level.first tokens c.loop-here.items o) c.in-Some.is (so_far.read tokens begins));
+          (subst (λ (o : Option Token). IsReadTo text a.level.most a.level.depth a.level.first tokens c.loop-here.items.items o) c.in-Some.is (so_far.read tokens begins));
       within = c.in-Ok.ensures.within;
       past = λ n h.
           let beyond : n < token.end = subst (λ (o : Option Token). IfSome o (λ t. n < t.end)) c.in-Some.is (so_far.past n h) in

@@ -13,7 +13,7 @@ decreases-group_at l = 2 * (length l.text.now - l.bracket.end) + 1
 
 abbrev pub invariant-items_at-loop-here : goal.invariant-items_at-loop-here
 invariant-items_at-loop-here l = record {
-  read : (tokens : List Token) → Begins l.text l.fn.begin tokens → IsReadTo l.text l.level.most l.level.depth l.level.first tokens l.items l.here;
+  read : (tokens : List Token) → Begins l.text l.fn.begin tokens → IsReadTo l.text l.level.most l.level.depth l.level.first tokens l.items.items l.here;
   within : IfSome l.here (λ token. token.end ≤ length l.text);
   past : (n : ℕ) → IfSome l.fn.begin (λ token. n < token.end) → IfSome l.here (λ token. n < token.end);
   fewer : left l.text l.here ≤ left l.text l.fn.begin;

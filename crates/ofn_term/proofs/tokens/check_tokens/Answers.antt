@@ -1,7 +1,6 @@
-use Rattle.std.proofs.Common.{◌≤◌, ℕ, ◌<◌, length, IsUtf8, IsCharBoundary, subst}
-use Rattle.std.specs.Prelude.{Option, Some, None, Ok, IfSome}
+use Rattle.std.proofs.Common.{◌≤◌, ◌<◌, length, IsUtf8, IsCharBoundary, subst}
+use Rattle.std.specs.Prelude.{Option, Some, Ok, IfSome}
 use Rattle.ofn_lex.specs.declared.token.Token.{Token}
-use Rattle.ofn_lex.specs.declared.token.LexFault.{LexFault}
 use Rattle.ofn_lex.specs.Texts.{IsAnswer, IsNext, CutsAtCharacters}
 use Rattle.ofn_term.specs.Texts.{IsOfCharacters}
 use Rattle.ofn_term.proofs.Checking.{none_passed, one_more_passed, all_passed, to_the_end}
