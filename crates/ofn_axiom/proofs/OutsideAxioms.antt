@@ -1,6 +1,6 @@
 -- A direct item that is read as the fault that something is outside the fragment has it there.
 use Rattle.std.proofs.Common.{◌≡◌, ℕ, Bool, true, false, cond, ◌&&◌, List, [], ◌∷◌, ◌++◌, map, refl, ap, sym, subst, ◌∙◌}
-use Rattle.std.specs.Prelude.{bytes_eq, Some, None, Result, Ok, Err}
+use Rattle.std.specs.Prelude.{bytes_eq, Some, Result, Ok, Err}
 use Rattle.ofn_lex.specs.declared.token.Token.{Token}
 use Rattle.ofn_term.specs.declared.item.Item.{Item}
 use Rattle.ofn_term.specs.declared.item.Item.TheVariants as item
@@ -38,7 +38,7 @@ classes_back text prefixes (i ∷ is) at outside done e =
     (λ here. class_here i is at outside (class_back text prefixes at outside i here))
     (λ c r later. class_later i is c at outside (class_stands text prefixes i c r) (classes_back text prefixes is at outside (done ++ c ∷ []) later))
 
--- the operands of each head
+-- the operands of a class below another
 sub_class_back : (text : List ℕ) (prefixes : Prefixes) (place : ℕ) (is : List Item) (at : ℕ) (outside : HeadId) → axiom_group place head.SubClassOf (map (given text prefixes) is) ≡ outside_at at outside → IsInOperands text prefixes head.SubClassOf is at outside
 sub_class_back text prefixes place [] at outside e = cc
 sub_class_back text prefixes place (i ∷ []) at outside e = cc
@@ -56,6 +56,7 @@ sub_class_back text prefixes place (i ∷ j ∷ []) at outside e =
     (λ d s last. cc))))))
 sub_class_back text prefixes place (i ∷ j ∷ k ∷ is) at outside e = cc
 
+-- the operands of equivalent classes
 equivalent_back : (text : List ℕ) (prefixes : Prefixes) (place : ℕ) (is : List Item) (at : ℕ) (outside : HeadId) → axiom_group place head.EquivalentClasses (map (given text prefixes) is) ≡ outside_at at outside → IsInOperands text prefixes head.EquivalentClasses is at outside
 equivalent_back text prefixes place [] at outside e = cc
 equivalent_back text prefixes place (i ∷ is) at outside e =
@@ -65,6 +66,7 @@ equivalent_back text prefixes place (i ∷ is) at outside e =
     in_equivalent (i ∷ is) at outside (all_fit_back text prefixes (i ∷ is) fit) (classes_back text prefixes (i ∷ is) at outside [] found)))
     (λ cs r last. cc)
 
+-- the operands of disjoint classes
 disjoint_back : (text : List ℕ) (prefixes : Prefixes) (place : ℕ) (is : List Item) (at : ℕ) (outside : HeadId) → axiom_group place head.DisjointClasses (map (given text prefixes) is) ≡ outside_at at outside → IsInOperands text prefixes head.DisjointClasses is at outside
 disjoint_back text prefixes place [] at outside e = cc
 disjoint_back text prefixes place (i ∷ is) at outside e =
@@ -74,6 +76,7 @@ disjoint_back text prefixes place (i ∷ is) at outside e =
     in_disjoint (i ∷ is) at outside (all_fit_back text prefixes (i ∷ is) fit) (classes_back text prefixes (i ∷ is) at outside [] found)))
     (λ cs r last. cc)
 
+-- the operands of a property below another
 sub_property_back : (text : List ℕ) (prefixes : Prefixes) (place : ℕ) (is : List Item) (at : ℕ) (outside : HeadId) → axiom_group place head.SubObjectPropertyOf (map (given text prefixes) is) ≡ outside_at at outside → IsInOperands text prefixes head.SubObjectPropertyOf is at outside
 sub_property_back text prefixes place [] at outside e = cc
 sub_property_back text prefixes place (i ∷ []) at outside e = cc
@@ -89,6 +92,7 @@ sub_property_back text prefixes place (i ∷ j ∷ []) at outside e =
     (λ s q last. cc))))
 sub_property_back text prefixes place (i ∷ j ∷ k ∷ is) at outside e = cc
 
+-- the operands of equivalent properties
 same_back : (text : List ℕ) (prefixes : Prefixes) (place : ℕ) (is : List Item) (at : ℕ) (outside : HeadId) → axiom_group place head.EquivalentObjectProperties (map (given text prefixes) is) ≡ outside_at at outside → IsInOperands text prefixes head.EquivalentObjectProperties is at outside
 same_back text prefixes place [] at outside e = cc
 same_back text prefixes place (i ∷ is) at outside e =
@@ -98,6 +102,7 @@ same_back text prefixes place (i ∷ is) at outside e =
     in_equivalent_properties (i ∷ is) at outside (all_fit_back text prefixes (i ∷ is) fit) (properties_back text prefixes (i ∷ is) at outside [] found)))
     (λ rs r last. cc)
 
+-- the operand of a transitive property
 transitive_back : (text : List ℕ) (prefixes : Prefixes) (place : ℕ) (is : List Item) (at : ℕ) (outside : HeadId) → axiom_group place head.TransitiveObjectProperty (map (given text prefixes) is) ≡ outside_at at outside → IsInOperands text prefixes head.TransitiveObjectProperty is at outside
 transitive_back text prefixes place [] at outside e = cc
 transitive_back text prefixes place (i ∷ []) at outside e =
@@ -107,6 +112,7 @@ transitive_back text prefixes place (i ∷ []) at outside e =
     (λ r s last. cc)
 transitive_back text prefixes place (i ∷ j ∷ is) at outside e = cc
 
+-- the operand of a reflexive property
 reflexive_back : (text : List ℕ) (prefixes : Prefixes) (place : ℕ) (is : List Item) (at : ℕ) (outside : HeadId) → axiom_group place head.ReflexiveObjectProperty (map (given text prefixes) is) ≡ outside_at at outside → IsInOperands text prefixes head.ReflexiveObjectProperty is at outside
 reflexive_back text prefixes place [] at outside e = cc
 reflexive_back text prefixes place (i ∷ []) at outside e =
@@ -116,6 +122,7 @@ reflexive_back text prefixes place (i ∷ []) at outside e =
     (λ r s last. cc)
 reflexive_back text prefixes place (i ∷ j ∷ is) at outside e = cc
 
+-- the operands of a domain
 domain_back : (text : List ℕ) (prefixes : Prefixes) (place : ℕ) (is : List Item) (at : ℕ) (outside : HeadId) → axiom_group place head.ObjectPropertyDomain (map (given text prefixes) is) ≡ outside_at at outside → IsInOperands text prefixes head.ObjectPropertyDomain is at outside
 domain_back text prefixes place [] at outside e = cc
 domain_back text prefixes place (i ∷ []) at outside e = cc
@@ -166,9 +173,11 @@ no_choice true c x y z at outside e = cc
 no_choice false true x y z at outside e = cc
 no_choice false false x y z at outside e = cc
 
+-- so no entity with one IRI is outside
 no_entity : (place : ℕ) (gs : List Given) (f : List ℕ → Result Direct OffsetFault) (at : ℕ) (outside : HeadId) → (one_iri place gs >>= f) ≡ outside_at at outside → ((iri : List ℕ) → f iri ≡ outside_at at outside → ⊥) → ⊥
 no_entity place gs f at outside e never = step_failed (one_iri place gs) f (fault.Profile at outside) e (λ read. no_iri place gs at outside read) (λ iri r last. never iri last)
 
+-- a fault of a direct item
 abbrev direct_as : OffsetFault → Result Direct OffsetFault
 direct_as f = Err f
 

@@ -22,8 +22,8 @@ use Rattle.ofn_axiom.specs.declared.fault.OffsetFault.{OffsetFault}
 use Rattle.ofn_axiom.specs.declared.fault.OffsetFault.TheVariants as fault
 use Rattle.ofn_axiom.specs.declared.types.IriExpr.{IriExpr}
 use Rattle.ofn_axiom.specs.Steps.{◌>>=◌}
-use Rattle.ofn_axiom.specs.Given.{Given, given, misplaced, property_of_iri, property_named, class_named, all_fit, alone, classes_onto, properties_onto, some_classes, some_properties, one_property, property_and_class, as_intersection, as_restriction, class_after, with_class, class_group, chain_group}
-use Rattle.ofn_axiom.specs.StandsFor.{top_property, bottom_property, IsHead, IsIri, IsProperty, IsClass}
+use Rattle.ofn_axiom.specs.Given.{Given, given, misplaced, property_of_iri, property_named, class_named, all_fit, alone, classes_onto, properties_onto, some_classes, property_and_class, as_intersection, as_restriction, class_after, with_class, class_group, chain_group}
+use Rattle.ofn_axiom.specs.StandsFor.{top_property, bottom_property, IsHead, IsIri}
 use Rattle.ofn_axiom.specs.Outside.{Fits, iri_fits, group_fits, AllFit, IsHeadOutside, outside_head, IsPropertyOutside, top_outside, bottom_outside, head_for_property, IsAmongProperties, property_here, property_later, IsClassOutside, head_for_class, in_intersection, in_property, in_filler, IsAmongClasses, class_here, class_later, IsChainOutside, single_outside, in_chain}
 use Rattle.ofn_axiom.proofs.Forms.{by_form}
 use Rattle.ofn_axiom.proofs.GivenLaws.{atom_gives, bare_gives, group_gives}
@@ -62,6 +62,7 @@ fits_back text prefixes = by_form (λ i. (given text prefixes i).fits ≡ true �
     (λ is start end. λ e. let bad : false ≡ true = sym (ap (λ (g : Given). g.fits) (bare_gives text prefixes is start end)) ∙ e in cc)
     (λ word is start end. λ e. group_fits word is start end)
 
+-- several items that fit
 pub all_fit_back : (text : List ℕ) (prefixes : Prefixes) (is : List Item) → all_fit (map (given text prefixes) is) ≡ true → AllFit text is
 all_fit_back text prefixes [] e = tt
 all_fit_back text prefixes (i ∷ is) e = both_passed (given text prefixes i).fits (all_fit (map (given text prefixes) is)) e (λ first rest. (fits_back text prefixes i first, all_fit_back text prefixes is rest))
@@ -115,12 +116,15 @@ properties_back text prefixes (i ∷ is) at outside done e =
 abbrev ClassBack : List ℕ → Prefixes → ℕ → HeadId → Item → Type 0
 ClassBack text prefixes at outside i = (given text prefixes i).class ≡ outside_at at outside → IsClassOutside text prefixes i at outside
 
+-- an item, with the proof of that
 abbrev WithBack : List ℕ → Prefixes → ℕ → HeadId → Type 0
 WithBack text prefixes at outside = (i : Item) × ClassBack text prefixes at outside i
 
+-- the items alone
 abbrev items_of : (text : List ℕ) (prefixes : Prefixes) (at : ℕ) (outside : HeadId) → List (WithBack text prefixes at outside) → List Item
 items_of text prefixes at outside es = map (λ e. e.0) es
 
+-- class expressions, then one in which something is outside
 classes_back : (text : List ℕ) (prefixes : Prefixes) (at : ℕ) (outside : HeadId) (es : List (WithBack text prefixes at outside)) (done : List IriExpr) → classes_onto done (map (given text prefixes) (items_of text prefixes at outside es)) ≡ outside_at at outside → IsAmongClasses text prefixes (items_of text prefixes at outside es) at outside
 classes_back text prefixes at outside [] done e = cc
 classes_back text prefixes at outside (p ∷ es) done e =
@@ -129,6 +133,7 @@ classes_back text prefixes at outside (p ∷ es) done e =
     (λ here. class_here p.0 is at outside (p.1 here))
     (λ c r later. class_later p.0 is c at outside (class_stands text prefixes p.0 c r) (classes_back text prefixes at outside es (done ++ c ∷ []) later))
 
+-- an intersection in which something is outside
 intersection_back : (text : List ℕ) (prefixes : Prefixes) (at : ℕ) (outside : HeadId) (word : Token) (es : List (WithBack text prefixes at outside)) (start end : ℕ) → IsHead text word head.ObjectIntersectionOf → (some_classes word.start (map (given text prefixes) (items_of text prefixes at outside es)) >>= as_intersection) ≡ outside_at at outside → IsClassOutside text prefixes (item.Group (Some word) (items_of text prefixes at outside es) start end) at outside
 intersection_back text prefixes at outside word [] start end h e = cc
 intersection_back text prefixes at outside word (p ∷ es) start end h e =
@@ -139,6 +144,7 @@ intersection_back text prefixes at outside word (p ∷ es) start end h e =
     in_intersection word is start end at outside h (all_fit_back text prefixes is fit) (classes_back text prefixes at outside (p ∷ es) [] found)))
     (λ cs r f. cc)
 
+-- a restriction in which something is outside
 restriction_back : (text : List ℕ) (prefixes : Prefixes) (at : ℕ) (outside : HeadId) (word : Token) (es : List (WithBack text prefixes at outside)) (start end : ℕ) → IsHead text word head.ObjectSomeValuesFrom → (property_and_class word.start (map (given text prefixes) (items_of text prefixes at outside es)) >>= as_restriction) ≡ outside_at at outside → IsClassOutside text prefixes (item.Group (Some word) (items_of text prefixes at outside es) start end) at outside
 restriction_back text prefixes at outside word [] start end h e = cc
 restriction_back text prefixes at outside word (p ∷ []) start end h e = cc
@@ -156,10 +162,11 @@ restriction_back text prefixes at outside word (p ∷ q ∷ []) start end h e =
     (λ both r f. cc)
 restriction_back text prefixes at outside word (p ∷ q ∷ o ∷ es) start end h e = cc
 
--- a fault of a class expression, and of a chain
+-- a fault of a class expression
 abbrev outside_as : OffsetFault → Result IriExpr OffsetFault
 outside_as f = Err f
 
+-- a fault of a chain
 abbrev chain_as : OffsetFault → Result (List (List ℕ)) OffsetFault
 chain_as f = Err f
 
@@ -169,6 +176,7 @@ no_class_token (named.Iri iri) place at outside e = cc
 no_class_token named.Unknown place at outside e = cc
 no_class_token named.NoIri place at outside e = cc
 
+-- a group in the place of a class expression
 class_group_back : (text : List ℕ) (prefixes : Prefixes) (at : ℕ) (outside : HeadId) (word : Token) (es : List (WithBack text prefixes at outside)) (start end : ℕ) → class_group word.start (head_of (bytes_of text word)) (map (given text prefixes) (items_of text prefixes at outside es)) ≡ outside_at at outside → IsClassOutside text prefixes (item.Group (Some word) (items_of text prefixes at outside es) start end) at outside
 class_group_back text prefixes at outside word es start end = by (head_of (bytes_of text word)) refl
   where
@@ -180,6 +188,7 @@ class_group_back text prefixes at outside word es start end = by (head_of (bytes
     by head.ObjectSomeValuesFrom h e = restriction_back text prefixes at outside word es start end h e
     by k h e = other k h e
 
+-- one layer of an item, where the items inside are proved
 class_step : (text : List ℕ) (prefixes : Prefixes) (at : ℕ) (outside : HeadId) (y : Item-F (WithBack text prefixes at outside)) → ClassBack text prefixes at outside (roll-Item (map-Item (WithBack text prefixes at outside) Item (λ e. e.0) y))
 class_step text prefixes at outside (Item-F.Atom token) =
     subst (ClassBack text prefixes at outside) (sym (rolls-Atom token)) (λ e.
@@ -195,7 +204,7 @@ class_step text prefixes at outside (Item-F.Group (Some word) es start end) =
 pub class_back : (text : List ℕ) (prefixes : Prefixes) (at : ℕ) (outside : HeadId) (i : Item) → (given text prefixes i).class ≡ outside_at at outside → IsClassOutside text prefixes i at outside
 class_back text prefixes at outside = ind-Item (ClassBack text prefixes at outside) (λ x y is. subst (λ (z : Item-F Item). ClassBack text prefixes at outside (roll-Item z)) is (class_step text prefixes at outside y))
 
--- an item in the place of a chain
+-- a group in the place of a chain
 chain_group_back : (text : List ℕ) (prefixes : Prefixes) (word : Token) (is : List Item) (start end at : ℕ) (outside : HeadId) → chain_group word.start (head_of (bytes_of text word)) (map (given text prefixes) is) ≡ outside_at at outside → IsChainOutside text prefixes (item.Group (Some word) is start end) at outside
 chain_group_back text prefixes word is start end at outside = by (head_of (bytes_of text word)) refl
   where
@@ -216,6 +225,7 @@ chain_group_back text prefixes word is start end at outside = by (head_of (bytes
     by head.ObjectPropertyChain h e = items is h e
     by k h e = other k h e
 
+-- an item in the place of a chain
 pub chain_back : (text : List ℕ) (prefixes : Prefixes) (at : ℕ) (outside : HeadId) (i : Item) → (given text prefixes i).chain ≡ outside_at at outside → IsChainOutside text prefixes i at outside
 chain_back text prefixes at outside = by_form (λ i. (given text prefixes i).chain ≡ outside_at at outside → IsChainOutside text prefixes i at outside)
     (λ token. λ e.

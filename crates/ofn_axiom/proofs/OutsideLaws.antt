@@ -1,25 +1,21 @@
 -- What is outside the fragment is read as the fault that says so.
 use Rattle.std.proofs.Common.{◌≡◌, ℕ, Bool, true, false, cond, List, [], ◌∷◌, ◌++◌, map, refl, ap, ◌∙◌}
-use Rattle.std.specs.Prelude.{Result, Ok, Err}
-use Rattle.ofn_lex.specs.declared.token.Token.{Token}
+use Rattle.std.specs.Prelude.{Result, Err}
 use Rattle.ofn_term.specs.declared.item.Item.{Item}
-use Rattle.ofn_term.specs.declared.item.Item.TheVariants as item
 use Rattle.ofn_heads.specs.declared.head.Head.{Head}
-use Rattle.ofn_heads.specs.declared.head.Head.TheVariants as head
 use Rattle.ofn_heads.specs.declared.outside.HeadId.{HeadId}
 use Rattle.text_names.specs.Prefixes.{Prefixes}
 use Rattle.ofn_axiom.specs.declared.fault.OffsetFault.{OffsetFault}
 use Rattle.ofn_axiom.specs.declared.fault.OffsetFault.TheVariants as fault
 use Rattle.ofn_axiom.specs.declared.types.IriExpr.{IriExpr}
 use Rattle.ofn_axiom.specs.declared.types.IriAxiom.{IriAxiom}
-use Rattle.ofn_axiom.specs.declared.types.Direct.{Direct}
 use Rattle.ofn_axiom.specs.Steps.{◌>>=◌}
 use Rattle.ofn_axiom.specs.Given.{Given, given, property_named, all_fit, alone, classes_onto, properties_onto, some_classes, some_properties, as_intersection, as_restriction, class_after, with_class, class_group, chain_group, as_equivalent, as_disjoint, as_equivalent_roles, as_transitive, as_reflexive, as_domain, as_sub_class, above, as_sub_role, role_above, axiom_group, as_axiom, entity_group, declaration, direct_group, is_annotation, after_annotations, misplaced}
-use Rattle.ofn_axiom.specs.StandsFor.{top_property, bottom_property, IsProperty, IsClass}
+use Rattle.ofn_axiom.specs.StandsFor.{top_property, bottom_property}
 use Rattle.ofn_axiom.specs.Outside.{Fits, group_fits, AllFit, IsHeadOutside, outside_head, IsPropertyOutside, top_outside, bottom_outside, head_for_property, IsAmongProperties, property_here, property_later, IsClassOutside, head_for_class, in_intersection, in_property, in_filler, IsAmongClasses, class_here, class_later, IsChainOutside, single_outside, in_chain, IsInOperands, in_sub_class, in_equivalent, in_disjoint, in_lower_property, in_upper_property, in_equivalent_properties, in_transitive, in_reflexive, in_domain_property, in_domain_class, IsOutside, direct_outside, entity_outside, operand_outside}
 use Rattle.ofn_axiom.specs.Outside as forms
 use Rattle.ofn_axiom.proofs.GivenLaws.{atom_gives, group_gives}
-use Rattle.ofn_axiom.proofs.StandsLaws.{iri_name, iri_fits, property_read, class_read, class_fits, two_fit}
+use Rattle.ofn_axiom.proofs.StandsLaws.{iri_name, iri_fits, property_read, class_read, two_fit}
 use Rattle.ofn_axiom.proofs.ChainLaws.{chain_read}
 use Rattle.ofn_axiom.proofs.AxiomLaws.{skipped, stop_at, class_goes_on, property_goes_on, chain_goes_on}
 
@@ -42,6 +38,7 @@ record GivesOutside (g : Given) (at : ℕ) (outside : HeadId) : Type 0 where
   entity : g.entity ≡ outside_at at outside
   direct : g.direct ≡ outside_at at outside
 
+-- a group whose head is outside gives that fault in each place
 head_gives : (text : List ℕ) (prefixes : Prefixes) (i : Item) (at : ℕ) (outside : HeadId) → IsHeadOutside text i at outside → GivesOutside (given text prefixes i) at outside
 head_gives text prefixes _ _ _ (outside_head word is start end outside h) =
     let e = group_gives text prefixes word is start end in
@@ -64,6 +61,7 @@ record GivesOutsideProperty (g : Given) (at : ℕ) (outside : HeadId) : Type 0 w
   property : g.property ≡ outside_at at outside
   chain : g.chain ≡ outside_at at outside
 
+-- so does what is outside in the place of a property
 property_gives : (text : List ℕ) (prefixes : Prefixes) (i : Item) (at : ℕ) (outside : HeadId) → IsPropertyOutside text prefixes i at outside → GivesOutsideProperty (given text prefixes i) at outside
 property_gives text prefixes _ _ _ (top_outside token is) =
     let e = atom_gives text prefixes token in
@@ -92,6 +90,7 @@ fits_read : (text : List ℕ) (prefixes : Prefixes) (i : Item) → Fits text i �
 fits_read text prefixes _ (forms.iri_fits token is) = ap (λ (g : Given). g.fits) (atom_gives text prefixes token) ∙ is
 fits_read text prefixes _ (group_fits word is start end) = ap (λ (g : Given). g.fits) (group_gives text prefixes word is start end)
 
+-- several items that fit are read so
 all_fit_read : (text : List ℕ) (prefixes : Prefixes) (is : List Item) → AllFit text is → all_fit (map (given text prefixes) is) ≡ true
 all_fit_read text prefixes [] fit = refl
 all_fit_read text prefixes (i ∷ is) fit = rw (fits_read text prefixes i fit.0, all_fit_read text prefixes is fit.1) refl
@@ -104,12 +103,14 @@ among_properties text prefixes _ _ _ (property_later i is iri at outside first l
     ap (λ (r : Result (List ℕ) OffsetFault). r >>= λ k. properties_onto (done ++ k ∷ []) (map (given text prefixes) is)) (property_read text prefixes i iri first).0
     ∙ among_properties text prefixes is at outside later (done ++ iri ∷ [])
 
+-- one or more, of which one is outside
 some_properties_read : (text : List ℕ) (prefixes : Prefixes) (place : ℕ) (is : List Item) (at : ℕ) (outside : HeadId) → AllFit text is → IsAmongProperties text prefixes is at outside → some_properties place (map (given text prefixes) is) ≡ outside_at at outside
 some_properties_read text prefixes place [] at outside fit among = elim among [ ]
 some_properties_read text prefixes place (i ∷ is) at outside fit among =
     ap (λ (b : Bool). cond b (properties_onto [] (map (given text prefixes) (i ∷ is))) (Err (fault.Shape place))) (all_fit_read text prefixes (i ∷ is) fit)
     ∙ among_properties text prefixes (i ∷ is) at outside among []
 
+-- one or more class expressions, where their reading is known
 some_classes_read : (text : List ℕ) (prefixes : Prefixes) (place : ℕ) (is : List Item) (at : ℕ) (outside : HeadId) → AllFit text is → IsAmongClasses text prefixes is at outside → classes_onto [] (map (given text prefixes) is) ≡ outside_at at outside → some_classes place (map (given text prefixes) is) ≡ outside_at at outside
 some_classes_read text prefixes place [] at outside fit among e = elim among [ ]
 some_classes_read text prefixes place (i ∷ is) at outside fit among e =
@@ -152,6 +153,7 @@ record GivesOutsideChain (g : Given) (at : ℕ) (outside : HeadId) : Type 0 wher
   goes_on : is_annotation g.head ≡ false
   chain : g.chain ≡ outside_at at outside
 
+-- what is outside in the place of a chain gives that fault
 chain_gives : (text : List ℕ) (prefixes : Prefixes) (i : Item) (at : ℕ) (outside : HeadId) → IsChainOutside text prefixes i at outside → GivesOutsideChain (given text prefixes i) at outside
 chain_gives text prefixes _ _ _ (single_outside i at outside is) =
     let g = property_gives text prefixes i at outside is in record { fits = g.fits; goes_on = g.goes_on; chain = g.chain }
@@ -222,14 +224,17 @@ class_outside_goes_on text prefixes _ _ _ (in_intersection word is start end at 
 class_outside_goes_on text prefixes _ _ _ (in_property word p c start end at outside h fit is) = ap (λ (g : Given). is_annotation g.head) (group_gives text prefixes word (p ∷ c ∷ []) start end) ∙ ap is_annotation h
 class_outside_goes_on text prefixes _ _ _ (in_filler word p c iri start end at outside h fit first is) = ap (λ (g : Given). is_annotation g.head) (group_gives text prefixes word (p ∷ c ∷ []) start end) ∙ ap is_annotation h
 
+-- so such class expressions begin with no annotation
 classes_outside_begin : (text : List ℕ) (prefixes : Prefixes) (is : List Item) (at : ℕ) (outside : HeadId) → IsAmongClasses text prefixes is at outside → after_annotations (map (given text prefixes) is) ≡ map (given text prefixes) is
 classes_outside_begin text prefixes _ _ _ (class_here i is at outside here) = stop_at _ _ (class_outside_goes_on text prefixes i at outside here)
 classes_outside_begin text prefixes _ _ _ (class_later i is c at outside first later) = stop_at _ _ (class_goes_on text prefixes i c first)
 
+-- nor do such properties
 properties_outside_begin : (text : List ℕ) (prefixes : Prefixes) (is : List Item) (at : ℕ) (outside : HeadId) → IsAmongProperties text prefixes is at outside → after_annotations (map (given text prefixes) is) ≡ map (given text prefixes) is
 properties_outside_begin text prefixes _ _ _ (property_here i is at outside here) = stop_at _ _ (property_gives text prefixes i at outside here).goes_on
 properties_outside_begin text prefixes _ _ _ (property_later i is iri at outside first later) = stop_at _ _ (property_goes_on text prefixes i iri first)
 
+-- nor do such operands
 operands_outside_begin : (text : List ℕ) (prefixes : Prefixes) (h : Head) (is : List Item) (at : ℕ) (outside : HeadId) → IsInOperands text prefixes h is at outside → after_annotations (map (given text prefixes) is) ≡ map (given text prefixes) is
 operands_outside_begin text prefixes _ _ _ _ (in_sub_class i j at outside fit among) = classes_outside_begin text prefixes (i ∷ j ∷ []) at outside among
 operands_outside_begin text prefixes _ _ _ _ (in_equivalent is at outside fit among) = classes_outside_begin text prefixes is at outside among

@@ -13,14 +13,17 @@ use Rattle.ofn_term.specs.Inside.PieceReading.{pieces_of, bracket_fault, IsFault
 use Rattle.ofn_term.proofs.TextLaws.{said, fault_of_brackets, written, items_of_tokens}
 use Rattle.ofn_term.proofs.read.read_items.Goals as goal
 
+-- what holds of all holds of one of them
 inside : (P : Token → Type 0) (front : List Token) (token : Token) (rest : List Token) → All P (front ++ token ∷ rest) → P token
 inside P [] token rest all = All-head P token rest all
 inside P (x ∷ front) token rest all = inside P front token rest (All-tail P x (front ++ token ∷ rest) all)
 
+-- a bracket stands where characters do
 bracket_of_characters : (text : List ℕ) (most level offset : ℕ) (tokens : List Token) (passes : Token → Bool) → All (IsOfCharacters text) tokens → IsBracketAt most tokens passes level offset → IsCharBoundary text offset
 bracket_of_characters text most level offset tokens passes all at =
     subst (IsCharBoundary text) at.place (inside (IsOfCharacters text) at.front at.bracket at.rest (subst (All (IsOfCharacters text)) at.whole all)).0
 
+-- so does a fault of brackets
 fault_at_character : (text : List ℕ) (most : ℕ) (tokens : List Token) (f : TermFault) → All (IsOfCharacters text) tokens → IsFaultUnlessMemory (bracket_fault most 0 0 tokens) f → IsAtCharacter text f
 fault_at_character text most tokens fault.OutOfMemory all is = tt
 fault_at_character text most tokens (fault.Lex offset) all is = absurd (said most tokens (Some (fault.Lex offset)) is)
