@@ -11,7 +11,8 @@ from driver import run_driver
 DRIVER = """#![tactic(auto)]
 
 use anyhow::Result;
-use case_load::assemble;
+use case_file::Case;
+use case_load::{LoadFault, Loaded, assemble};
 use case_tables::build_tables;
 use ofn_axiom::{Mode, Names, read_document};
 use sssom_rows::read_table;
@@ -81,42 +82,77 @@ fn made(alloc: Global, classes: u32) -> Result<Texts> {
     })
 }
 
-// The seconds of reading the three texts.
-fn seconds_of_reading(rt: &HostRuntime, texts: &Texts, limits: &Limits) -> Result<f64> {
-    let alloc = rt.alloc();
+// Reads the three texts, and says how many axioms and rows they have.
+fn read(alloc: Global, texts: &Texts, limits: &Limits) -> Result<usize> {
     let mut names = Names {
         classes: NameTable::new(alloc, limits.classes),
         roles: NameTable::new(alloc, limits.properties),
     };
-    let start = Instant::now(rt)?;
     let left = read_document(alloc, texts.left.as_slice(), Mode::Strict, limits, &mut names)?;
     let right = read_document(alloc, texts.right.as_slice(), Mode::Strict, limits, &mut names)?;
     let table = read_table(alloc, texts.map.as_slice(), limits.rows)?;
+    Ok(left.axioms.len().max(right.axioms.len()).max(table.rows.as_slice().len()))
+}
+
+fn seconds_of_reading(rt: &HostRuntime, texts: &Texts, limits: &Limits) -> Result<f64> {
+    let start = Instant::now(rt)?;
+    let most = read(rt.alloc(), texts, limits)?;
     let seconds = start.elapsed(rt)?.as_secs_f64();
-    let (axioms, more) = (left.axioms.len(), right.axioms.len());
-    println!(rt; "{axioms} and {more} axioms, {} rows", table.rows.as_slice().len())?;
+    println!(rt; "at most {most} axioms or rows")?;
     Ok(seconds)
 }
 
-fn measure(rt: &HostRuntime, classes: u32) -> Result<()> {
-    let alloc = rt.alloc();
+fn seconds_of_tables(rt: &HostRuntime, case: &Case) -> Result<f64> {
+    let start = Instant::now(rt)?;
+    let tables = build_tables(rt.alloc(), case)?;
+    let entries = tables.inclusions(2).len();
+    let seconds = start.elapsed(rt)?.as_secs_f64();
+    println!(rt; "{entries} entries of the first class")?;
+    Ok(seconds)
+}
+
+fn case_of(alloc: Global, texts: &Texts) -> Result<Loaded> {
     let limits = Limits::standard();
-    let texts = made(alloc, classes)?;
-    if texts.left.len() >= 0x8000_0000 || texts.right.len() >= 0x8000_0000 || texts.map.len() >= 0x8000_0000 {
-        return Ok(());
+    let left = texts.left.as_slice();
+    let right = texts.right.as_slice();
+    let map = texts.map.as_slice();
+    if left.len() >= 0x8000_0000 || right.len() >= 0x8000_0000 || map.len() >= 0x8000_0000 {
+        return Err(LoadFault::OutOfMemory.into());
     }
+    Ok(assemble(alloc, left, right, map, Mode::Strict, &limits)?)
+}
+
+// What one run took.
+#[derive(Clone, Copy)]
+struct Took {
+    assembling: f64,
+    tabling: f64,
+    nodes: u32,
+}
+
+fn run(rt: &HostRuntime, texts: &Texts) -> Result<Took> {
+    let start = Instant::now(rt)?;
+    let loaded = case_of(rt.alloc(), texts)?;
+    let assembling = start.elapsed(rt)?.as_secs_f64();
+    let tabling = seconds_of_tables(rt, &loaded.case)?;
+    Ok(Took {
+        assembling,
+        tabling,
+        nodes: loaded.case.store().nodes(),
+    })
+}
+
+fn measure(rt: &HostRuntime, classes: u32) -> Result<()> {
+    let limits = Limits::standard();
+    let texts = made(rt.alloc(), classes)?;
     let (mut reading, mut assembling, mut tabling) = (f64::MAX, f64::MAX, f64::MAX);
     let mut nodes = 0;
     for _ in 0..3 {
         reading = reading.min(seconds_of_reading(rt, &texts, &limits)?);
-        let start = Instant::now(rt)?;
-        let loaded = assemble(alloc, texts.left.as_slice(), texts.right.as_slice(), texts.map.as_slice(), Mode::Strict, &limits)?;
-        assembling = assembling.min(start.elapsed(rt)?.as_secs_f64());
-        nodes = loaded.case.store().nodes();
-        let start = Instant::now(rt)?;
-        let tables = build_tables(alloc, &loaded.case)?;
-        tabling = tabling.min(start.elapsed(rt)?.as_secs_f64());
-        println!(rt; "{} entries of node 2", tables.inclusions(2).len())?;
+        let took = run(rt, &texts)?;
+        assembling = assembling.min(took.assembling);
+        tabling = tabling.min(took.tabling);
+        nodes = took.nodes;
     }
     let building = (assembling - reading).max(0.0);
     let each = (building + tabling) * 1e6 / classes as f64;
@@ -133,4 +169,4 @@ fn main(rt: HostRuntime) -> Result<()> {
 }
 """
 
-run_driver("bench_cases", DRIVER, ["case_load", "case_tables", "ofn_axiom", "sssom_rows", "text_names"], " microseconds a class")
+run_driver("bench_cases", DRIVER, ["case_file", "case_load", "case_tables", "ofn_axiom", "sssom_rows", "text_names"], " microseconds a class")
