@@ -1,6 +1,6 @@
 -- The first axiom that doesn't hold, and the first class without a member.
-use Rattle.std.proofs.Common.{◌≡◌, ◌∙◌, ℕ, zero, suc, ◌+◌, ◌<◌, ◌≤◌, ◌⊎◌, List, [], ◌∷◌, ◌++◌, map, take, length, get_or, All, Contains, Option, Some, None, slice_get, append_assoc, ◌^◌, refl, sym, ap, subst, inl, inr, ⊎_elim, arith}
-use Rattle.std.specs.Prelude.{slice_index_or, slice_index, flat_map}
+use Rattle.std.proofs.Common.{◌≡◌, ℕ, zero, suc, ◌+◌, ◌<◌, ◌≤◌, List, [], ◌∷◌, ◌++◌, take, length, All, Contains, Option, Some, None, slice_get, append_assoc, ◌^◌, refl, sym, ap, subst, inl, inr, ⊎_elim, arith}
+use Rattle.std.specs.Prelude.{slice_index, flat_map}
 use Rattle.std.proofs.lemmas.Bool.{cases_lt}
 use Rattle.std.proofs.lemmas.List.{get_or-map}
 use Rattle.std.proofs.lemmas.Option.{none-some, same_Some, slice_get_within}
@@ -28,8 +28,10 @@ module _ (i : Interp) where
       inl ((λ holds. fails (subst (Holds i) (same_Some first said at) holds)), ap name here)
   fails_at name start (first ∷ axioms) (suc k) said before at fails =
       let later : start + 1 + k ≡ start + suc k = omega arith in
-      inr (All-head (Holds i) first (take k axioms) before,
-      subst (λ n. IsFirstFailing i (numbered_from name (start + 1) axioms) (name n)) later (fails_at name (start + 1) axioms k said (All-tail (Holds i) first (take k axioms) before) at fails))
+      inr (
+        All-head (Holds i) first (take k axioms) before,
+        subst (λ n. IsFirstFailing i (numbered_from name (start + 1) axioms) (name n)) later (fails_at name (start + 1) axioms k said (All-tail (Holds i) first (take k axioms) before) at fails),
+      )
 
   -- more axioms after it change nothing
   pub stop : (sourced others : List (Source × Axiom)) (source : Source) → IsFirstFailing i sourced source → IsFirstFailing i (sourced ++ others) source
@@ -87,9 +89,9 @@ pub before_has : (case : CaseView) (i : Interp) (class : ℕ) → IsInterp case.
 before_has case i class fits has node before must = ⊎_elim
     (λ thing. (0, subst (λ n. IsMember i 0 (name_of n)) (sym thing) (let some = fits.inhabited in let l : 0 < i.size = omega arith in l)))
     (λ (k, below, same, kept).
-        let at : node ≡ suc (suc k) = omega (arith, same) in
-        let member = has k (omega (arith, same, before)) (λ there. kept (subst (Contains case.excused) (sym same) there)) in
-        (member.0, subst (λ n. IsMember i member.0 (name_of n)) (sym at) member.1))
+    let at : node ≡ suc (suc k) = omega (arith, same) in
+    let member = has k (omega (arith, same, before)) (λ there. kept (subst (Contains case.excused) (sym same) there)) in
+    (member.0, subst (λ n. IsMember i member.0 (name_of n)) (sym at) member.1))
     must
 
 -- a class without a member that must have one, after others that have one
@@ -130,8 +132,8 @@ pub has_more : (case : CaseView) (i : Interp) (class : ℕ) → ((k : ℕ) → k
 has_more case i class has this k less kept = ⊎_elim
     (λ early. has k early kept)
     (λ late.
-        let same : class ≡ k = omega arith in
-        subst (λ n. (x : ℕ) × Contains (members_of i n) x) same (this (subst (λ n. ¬ (Contains case.excused (n + 2))) (sym same) kept)))
+    let same : class ≡ k = omega arith in
+    subst (λ n. (x : ℕ) × Contains (members_of i n) x) same (this (subst (λ n. ¬ (Contains case.excused (n + 2))) (sym same) kept)))
     (cases_lt k class)
 
 -- the node of a class is a number of 32 bits if the number of nodes is

@@ -1,5 +1,5 @@
 -- What the code looks for.
-use Rattle.std.specs.Prelude.{◌≡◌, ℕ, Bool, nat_eq, List, Option, Some, None, All}
+use Rattle.std.specs.Prelude.{ℕ, Bool, nat_eq, List, Option, Some, None, All}
 use Rattle.std.specs.List.{list_any, flat_map}
 use Rattle.el_logic.specs.declared.types.Part.{Part}
 use Rattle.el_logic.specs.declared.types.Axiom.{Axiom}

@@ -1,4 +1,4 @@
-use Rattle.std.proofs.Common.{◌≡◌, ◌∙◌, ◌+◌, ◌<◌, ◌≤◌, ℕ, List, [], length, Contains, ap, sym, subst, arith, true≢false}
+use Rattle.std.proofs.Common.{◌≡◌, ◌∙◌, ◌+◌, ◌<◌, ℕ, List, [], length, ap, sym, subst, arith, true≢false}
 use Rattle.std.specs.Prelude.{slice_index_or}
 use Rattle.std.proofs.lemmas.List.{get_or_read}
 use Rattle.el_logic.specs.Meaning.{members_of}
@@ -17,7 +17,7 @@ loop-class-preserved-then-not-is_empty c =
     let long = ap (λ (ls : List (List ℕ)). length ls) c.as_slice-classes.ensures in
     let within : class < length lists = omega (arith, long, c.requires.each_class, c.loop-class-test.true, c.classes-class-end.ensures) in
     let list_is : c.index-classes-class.result ≡ members_of c.args.i.now class =
-        get_or_read lists class c.index-classes-class.result within c.index-classes-class.is [] ∙ ap (λ (ls : List (List ℕ)). slice_index_or ls class []) c.as_slice-classes.ensures in
+    get_or_read lists class c.index-classes-class.result within c.index-classes-class.is [] ∙ ap (λ (ls : List (List ℕ)). slice_index_or ls class []) c.as_slice-classes.ensures in
     has_more c.args.case.now c.args.i.now class c.loop-class.invariant (λ _.
     some_of (members_of c.args.i.now class) (λ none. true≢false (sym (c.is_empty.ensures.1 (list_is ∙ none)) ∙ c.if-not-is_empty.true)))
 
@@ -28,7 +28,7 @@ overflow_add-node c =
     let store_is : store_of case.classes case.properties case.left case.right ≡ case.store = sym (ap (λ (v : CaseView). v.store) c.store.ensures.case.built) in
     let order = subst (λ (s : Numbered). AreInOrder case.classes case.properties s.nodes) store_is (c.nodes_stand_in_order.ensures case.classes case.properties case.left case.right given.left given.right) in
     let fits = class_fits case c.nodes-nodes.result c.loop-class.class (c.nodes-nodes.ensures ∙ ap (λ (s : Numbered). length s.nodes) c.store.ensures.store) (omega arith) order
-        (omega (arith, c.loop-class-test.true, c.classes-class-end.ensures)) in
+    (omega (arith, c.loop-class-test.true, c.classes-class-end.ensures)) in
     omega (arith, fits)
 
 pub loop-class-preserved : goal.loop-class-preserved
@@ -44,7 +44,7 @@ returns-in-loop-class c =
     let long = ap (λ (ls : List (List ℕ)). length ls) c.as_slice-classes.ensures in
     let within : class < length lists = omega (arith, long, c.requires.each_class, c.loop-class-test.true, c.classes-class-end.ensures) in
     let list_is : c.index-classes-class.result ≡ members_of c.args.i.now class =
-        get_or_read lists class c.index-classes-class.result within c.index-classes-class.is [] ∙ ap (λ (ls : List (List ℕ)). slice_index_or ls class []) c.as_slice-classes.ensures in
+    get_or_read lists class c.index-classes-class.result within c.index-classes-class.is [] ∙ ap (λ (ls : List (List ℕ)). slice_index_or ls class []) c.as_slice-classes.ensures in
     is_first_empty c.args.case.now c.args.i.now class c.requires (omega (arith, c.loop-class-test.true, c.classes-class-end.ensures))
     (sym list_is ∙ c.is_empty.ensures.0 c.if-not-is_empty.false)
     (λ there. true≢false (sym (finds c.args.case.now.excused (class + 2) there) ∙ ap (λ numbers. has_number numbers (class + 2)) (sym c.excused.ensures) ∙ sym c.has_number.ensures ∙ c.if-has_number.false))
