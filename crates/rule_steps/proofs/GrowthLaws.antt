@@ -16,7 +16,7 @@ use Rattle.el_rules.specs.Theories.{IsNamedBy}
 use Rattle.el_rules.specs.Following.{IsEarlier, IsPlacedBelow, FollowsByReason, NamesNoMore}
 use Rattle.case_file.specs.Cases.{theory_of}
 use Rattle.rule_steps.specs.Counted.{GroundsView, nodes_of}
-use Rattle.rule_steps.specs.Growing.{facts_in, AreLinksWithin, EachNamesNoMore, AreDerived, HasGrown}
+use Rattle.rule_steps.specs.Growing.{facts_in, AreLinksWithin, AreDerived, HasGrown}
 use Rattle.rule_steps.specs.Answering.{IsAt, AreClosedBelow, IsAnsweredFirst, IsAnsweredSecond, AreBegunBelow}
 use Rattle.rule_steps.specs.Inside.Steps.{IsDerivedFrom, IsLinkWithin}
 use Rattle.rule_steps.proofs.Giving.{gives_more}
@@ -42,7 +42,7 @@ follows_stays grounds items more k item follows =
 
 -- an item that follows and one more
 pub derived_push : (grounds : GroundsView) (items : List Proved) (item : Proved) → IsDerivedFrom grounds items item → IsLinkWithin (length grounds.case.store.roles) item.fact → AreDerived grounds items → AreDerived grounds (items ++ item ∷ [])
-derived_push grounds items item from within old = record { follows = follows; names = names; links = links }
+derived_push grounds items item from within old = record { follows = follows; links = links }
   where
     follows : (k : ℕ) (other : Proved) → slice_get (items ++ item ∷ []) k ≡ Some other → FollowsByReason (nodes_of grounds) (theory_of grounds.case) grounds.part grounds.ranks (items ++ item ∷ []) k other
     follows k other at = ⊎_elim
@@ -51,12 +51,6 @@ derived_push grounds items item from within old = record { follows = follows; na
         subst (λ x. FollowsByReason (nodes_of grounds) (theory_of grounds.case) grounds.part grounds.ranks (items ++ item ∷ []) k x) end.1
         (subst (λ n. FollowsByReason (nodes_of grounds) (theory_of grounds.case) grounds.part grounds.ranks (items ++ item ∷ []) n item) (sym end.0)
         (follows_stays grounds items (item ∷ []) (length items) item from.follows)))
-        (cases_lt k (length items))
-
-    names : EachNamesNoMore (items ++ item ∷ [])
-    names k other at = ⊎_elim
-        (λ less. old.names k other (was_at items (item ∷ []) k other less at))
-        (λ more. subst (λ (x : Proved). NamesNoMore x.reason.rule x.reason.first x.reason.second x.reason.source) (only_end items item other k more at).1 from.names)
         (cases_lt k (length items))
 
     by_fact : (k a r b : ℕ) → slice_get (facts_of items ++ item.fact ∷ []) k ≡ Some (Link a r b) → r < length grounds.case.store.roles

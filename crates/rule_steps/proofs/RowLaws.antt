@@ -185,7 +185,7 @@ counts_for_more ranks more wider Part.Right Source.Nothing counts = absurd count
 
 -- what is derived for some ranks is derived for more
 pub derived_for_more : (grounds : GroundsView) (more : List ℕ) (items : List Proved) → ((rank : ℕ) → Contains grounds.ranks rank → Contains more rank) → AreDerived grounds items → AreDerived (record grounds { ranks = more }) items
-derived_for_more grounds more items wider derived = record { follows = follows; names = derived.names; links = derived.links }
+derived_for_more grounds more items wider derived = record { follows = follows; links = derived.links }
   where
     follows : (k : ℕ) (item : Proved) → slice_get items k ≡ Some item → FollowsByReason (nodes_of grounds) (theory_of grounds.case) grounds.part more items k item
     follows k item at =

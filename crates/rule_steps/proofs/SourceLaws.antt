@@ -12,7 +12,8 @@ use Rattle.concept_store.specs.declared.types.NodeAxiom.{NodeAxiom}
 use Rattle.fact_table.specs.declared.types.Source.{Source}
 use Rattle.el_rules.specs.Theories.{IsSourceOf}
 use Rattle.case_tables.specs.Named.{IsNamedIn, HasRank}
-use Rattle.rule_steps.specs.Counted.{GroundsView, AreRanksOf, IsCounting}
+use Rattle.case_file.specs.Cases.{AreRanksOf}
+use Rattle.rule_steps.specs.Counted.{GroundsView, IsCounting}
 use Rattle.rule_steps.specs.Inside.Entries.{AreEntriesOf}
 
 -- ascending ranks don't fall
@@ -47,7 +48,7 @@ pub has_rank : (grounds : GroundsView) → AreRanksOf grounds.case grounds.ranks
 has_rank grounds ranks (Source.Left number) counts = tt
 has_rank grounds ranks (Source.Right number) counts = tt
 has_rank grounds ranks (Source.Row rank number) counts =
-    All-contains (λ r. r < length grounds.case.order) grounds.ranks rank ranks.within (held grounds.part counts)
+    All-contains (λ r. r < length grounds.case.order) grounds.ranks rank ranks.below (held grounds.part counts)
   where
     held : (part : Part) → IsSourceOf part grounds.ranks (Source.Row rank number) → Contains grounds.ranks rank
     held Part.Left is = is
