@@ -45,8 +45,8 @@ fn restriction_of(store: &Store, n: u32) -> Option<(u32, u32)>
     }
 }
 
-// What each rule gives, if it starts from premises or from an axiom. What the rule does not read, as
-// the nodes or a second premise, is empty in the clause.
+// What each rule gives, if it starts from premises or from an axiom. What the rule does not read,
+// as the nodes or a second premise, is empty in the clause.
 fn by_incl(said: Option<&NodeAxiom>, one: Option<Fact>, a: u32, d: u32) -> bool
     ensures { IsTrue result ↔ GivesFrom [] (option_copied said.entry) one None Rule.Incl (Sub a d) }
 {

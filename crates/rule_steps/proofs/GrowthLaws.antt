@@ -23,10 +23,6 @@ use Rattle.rule_steps.proofs.Giving.{gives_more}
 use Rattle.rule_steps.proofs.PlaceLaws.{at_stays, was_at, only_end}
 use Rattle.rule_steps.proofs.Closings.{first_stays, second_stays, closed_stays}
 
--- the facts of a longer list
-pub facts_longer : (items more : List Proved) → facts_of (items ++ more) ≡ facts_of items ++ facts_of more
-facts_longer items more = map-append (λ (item : Proved). item.fact) items more
-
 -- an earlier item stays one
 earlier_stays : (items more : List Proved) (k place : ℕ) (fact : Fact) → IsEarlier items k place fact → IsEarlier (items ++ more) k place fact
 earlier_stays items more k place fact (item, before, at, same) = (item, before, at_stays items more place item at, same)
@@ -60,7 +56,7 @@ derived_push grounds items item from within old = record { follows = follows; li
         (cases_lt k (length (facts_of items)))
 
     links : AreLinksWithin (length grounds.case.store.roles) (facts_of (items ++ item ∷ []))
-    links k a r b at = by_fact k a r b (subst (λ xs. slice_get xs k ≡ Some (Link a r b)) (facts_longer items (item ∷ [])) at)
+    links k a r b at = by_fact k a r b (subst (λ xs. slice_get xs k ≡ Some (Link a r b)) (map-append (λ (one : Proved). one.fact) items (item ∷ [])) at)
 
 module _ (grounds : GroundsView) where
   -- nothing was added
@@ -83,7 +79,7 @@ module _ (grounds : GroundsView) where
   pub grown_facts : (old new : Topped) → HasGrown grounds old new → (more : List Fact) × (facts_in new ≡ facts_in old ++ more)
   grown_facts old new grown =
       let longer = grown_whole old new grown in
-      (facts_of longer.0, ap facts_of longer.1 ∙ facts_longer (whole old) longer.0)
+      (facts_of longer.0, ap facts_of longer.1 ∙ map-append (λ (one : Proved). one.fact) (whole old) longer.0)
 
   -- one item was added
   pub grown_push : (old new : Topped) (item : Proved) → new.base ≡ old.base → new.top ≡ old.top ++ item ∷ [] → IsDerivedFrom grounds (whole old) item → IsLinkWithin (length grounds.case.store.roles) item.fact → HasGrown grounds old new

@@ -1,6 +1,13 @@
 -- The axioms of rows, and what further rows give.
-use Rattle.std.proofs.Common.{ℕ, ◌<◌, ◌≤◌, ◌⊎◌, List, [], ◌∷◌, length, map, get_or, Contains, Some, subst, sym, inl, ⊎_elim, arith, All}
-use Rattle.std.specs.Prelude.{slice_index_or}
+use Rattle.fact_table.specs.declared.types.Proved.{Proved}
+use Rattle.el_rules.specs.Theories.{IsNamedBy}
+use Rattle.el_rules.specs.Following.{FollowsByReason, IsEarlier}
+use Rattle.rule_steps.specs.Growing.{AreDerived}
+use Rattle.rule_steps.specs.Answering.{AreBegunBelow}
+use Rattle.el_rules.specs.Saying.{MakesReflexive}
+use Rattle.rule_steps.proofs.Giving.{gives_more}
+use Rattle.std.proofs.Common.{◌≡◌, ℕ, ◌<◌, ◌≤◌, ◌⊎◌, List, [], ◌∷◌, length, map, get_or, Contains, Some, subst, sym, inl, ⊎_elim, arith, All}
+use Rattle.std.specs.Prelude.{slice_get, slice_index_or}
 use Rattle.std.proofs.lemmas.Bool.{cases_lt}
 use Rattle.std.proofs.Math.ListN.{get_or-eq_default}
 use Rattle.std.proofs.lemmas.List.{get_or-map, length-map}
@@ -63,6 +70,11 @@ separates_no : (said : NodeAxiom) (c d : ℕ) → IsInclusion said → Separates
 separates_no (SubClass low high) c d is says = says
 separates_no (SubRole chain into first) c d is says = says
 separates_no _ c d is says = is
+
+reflexive_no : (said : NodeAxiom) (r : ℕ) → IsInclusion said → MakesReflexive said r → ⊥
+reflexive_no (SubClass low high) r is says = says
+reflexive_no (SubRole chain into first) r is says = says
+reflexive_no _ r is says = is
 
 domain_no : (said : NodeAxiom) (r c : ℕ) → IsInclusion said → HasDomain said r c → ⊥
 domain_no (SubClass low high) r c is says = says
@@ -133,3 +145,53 @@ module _ (grounds : GroundsView) (olds : List ℕ) (first : ℕ) where
     closed_later Rule.Top fact some given = absurd (omega arith)
     closed_later Rule.Refl fact some given = absurd (omega arith)
     closed_later _ fact some given = absurd given
+
+  -- nor do later rows ask for more facts of the rules without premises
+  pub begun_later : (n : ℕ) (facts : List Fact) → HaveRowsInclusions grounds.case.over → ((rank : ℕ) → Contains grounds.ranks rank → Contains olds rank ⊎ (first ≤ rank)) →
+      AreBegunBelow (nodes_of grounds) (IsCounted old_grounds) n facts → AreBegunBelow (nodes_of grounds) (IsCounted grounds) n facts
+  begun_later n facts rows split begun node below Rule.Itself (Sub a b) of_node given = begun node below Rule.Itself (Sub a b) of_node given
+  begun_later n facts rows split begun node below Rule.Top (Sub a b) of_node given = begun node below Rule.Top (Sub a b) of_node given
+  begun_later n facts rows split begun node below Rule.Refl (Link a r b) of_node (said, (source, (counts, named)), says, within, same) = ⊎_elim
+      (λ old. begun node below Rule.Refl (Link a r b) of_node (said, (source, (old, named)), says, within, same))
+      (λ late. absurd (reflexive_no said r (late_includes source said rows late named) says))
+      (old_or_late split grounds.part source counts)
+  begun_later n facts rows split begun node below Rule.Incl (Sub a d) of_node given = absurd given.4
+  begun_later n facts rows split begun node below Rule.Left (Sub a c) of_node given = absurd given.3
+  begun_later n facts rows split begun node below Rule.Right (Sub a c) of_node given = absurd given.3
+  begun_later n facts rows split begun node below Rule.Both (Sub a m) of_node given = absurd given.3
+  begun_later n facts rows split begun node below Rule.Out (Link a r c) of_node given = absurd given.2
+  begun_later n facts rows split begun node below Rule.Into (Sub a m) of_node given = absurd given.4
+  begun_later n facts rows split begun node below Rule.Void (Sub a m) of_node given = absurd given.3
+  begun_later n facts rows split begun node below Rule.Role (Link a s b) of_node given = absurd given.4
+  begun_later n facts rows split begun node below Rule.Chain (Link a t c) of_node given = absurd given.6
+  begun_later n facts rows split begun node below Rule.Dom (Sub a c) of_node given = absurd given.5
+  begun_later n facts rows split begun node below Rule.Disj (Sub a m) of_node given = absurd given.6
+  begun_later n facts rows split begun node below _ fact of_node given = absurd given
+
+-- a source that counts for some ranks counts for more
+counts_for_more : (ranks more : List ℕ) → ((rank : ℕ) → Contains ranks rank → Contains more rank) → (part : Part) (source : Source) → IsSourceOf part ranks source → IsSourceOf part more source
+counts_for_more ranks more wider Part.Left (Source.Left number) counts = counts
+counts_for_more ranks more wider Part.Both (Source.Left number) counts = counts
+counts_for_more ranks more wider Part.Right (Source.Left number) counts = counts
+counts_for_more ranks more wider Part.Left (Source.Right number) counts = counts
+counts_for_more ranks more wider Part.Both (Source.Right number) counts = counts
+counts_for_more ranks more wider Part.Right (Source.Right number) counts = counts
+counts_for_more ranks more wider Part.Left (Source.Row rank number) counts = wider rank counts
+counts_for_more ranks more wider Part.Both (Source.Row rank number) counts = wider rank counts
+counts_for_more ranks more wider Part.Right (Source.Row rank number) counts = wider rank counts
+counts_for_more ranks more wider Part.Left Source.Nothing counts = absurd counts
+counts_for_more ranks more wider Part.Both Source.Nothing counts = absurd counts
+counts_for_more ranks more wider Part.Right Source.Nothing counts = absurd counts
+
+-- what is derived for some ranks is derived for more
+pub derived_for_more : (grounds : GroundsView) (more : List ℕ) (items : List Proved) → ((rank : ℕ) → Contains grounds.ranks rank → Contains more rank) → AreDerived grounds items → AreDerived (record grounds { ranks = more }) items
+derived_for_more grounds more items wider derived = record { follows = follows; links = derived.links }
+  where
+    follows : (k : ℕ) (item : Proved) → slice_get items k ≡ Some item → FollowsByReason (nodes_of grounds) (theory_of grounds.case) grounds.part more items k item
+    follows k item at =
+        let Old : NodeAxiom → Type 0 = IsNamedBy (theory_of grounds.case) grounds.part grounds.ranks item.reason.source in
+        let New : NodeAxiom → Type 0 = IsNamedBy (theory_of grounds.case) grounds.part more item.reason.source in
+        let One : Fact → Type 0 = IsEarlier items k item.reason.first in
+        let Two : Fact → Type 0 = IsEarlier items k item.reason.second in
+        gives_more (nodes_of grounds) Old New One Two One Two
+        (λ said is. (counts_for_more grounds.ranks more wider grounds.part item.reason.source is.0, is.1)) (λ f one. one) (λ f two. two) item.reason.rule item.fact (derived.follows k item at)

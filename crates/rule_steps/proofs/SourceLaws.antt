@@ -12,12 +12,13 @@ use Rattle.concept_store.specs.declared.types.NodeAxiom.{NodeAxiom}
 use Rattle.fact_table.specs.declared.types.Source.{Source}
 use Rattle.el_rules.specs.Theories.{IsSourceOf}
 use Rattle.case_tables.specs.Named.{IsNamedIn, HasRank}
-use Rattle.rule_steps.specs.Counted.{GroundsView, AreRanksOf, IsCounting}
+use Rattle.case_file.specs.Cases.{AreRanksOf}
+use Rattle.rule_steps.specs.Counted.{GroundsView, IsCounting}
 use Rattle.rule_steps.specs.Inside.Entries.{AreEntriesOf}
 
--- ascending ranks don't fall
-rising : (ranks : List ℕ) → IsStrictlyIncreasing ranks → (i j : ℕ) → i ≤ j → j < length ranks → get_or ranks i 0 ≤ get_or ranks j 0
-rising ranks ascending i j order within = ⊎_elim
+-- no rank is below one that stands before it
+rising : (ranks : List ℕ) (i j : ℕ) → IsStrictlyIncreasing ranks → i ≤ j → j < length ranks → get_or ranks i 0 ≤ get_or ranks j 0
+rising ranks i j ascending order within = ⊎_elim
     (λ less. let below = AllPairs-from_increasing ranks ascending i j 0 less within in omega arith)
     (λ more. let same : i ≡ j = omega arith in subst (λ k. get_or ranks i 0 ≤ get_or ranks k 0) same (omega arith))
     (cases_lt i j)
@@ -25,10 +26,10 @@ rising ranks ascending i j order within = ⊎_elim
 -- a search finds a rank exactly if it is there
 pub found_rank : (ranks : List ℕ) (rank : ℕ) (found : Result ℕ ℕ) → IsStrictlyIncreasing ranks → IsBinarySearchResult (λ y. nat_cmp y rank) ranks found → IsTrue (is_ok found) ↔ Contains ranks rank
 found_rank ranks rank (Ok i) ascending answer =
-    let at = searched ranks rank (Ok i) answer (rising ranks ascending) in
+    let at = searched ranks rank (Ok i) answer (λ one other. rising ranks one other ascending) in
     (λ is. (i, at.0, get_or_default ranks i rank 0 at.0 ∙ at.1), λ held. refl)
 found_rank ranks rank (Err i) ascending answer =
-    let at = searched ranks rank (Err i) answer (rising ranks ascending) in
+    let at = searched ranks rank (Err i) answer (λ one other. rising ranks one other ascending) in
     (λ is. cc, λ held. absurd (missed at held))
   where
     missed : (i ≤ length ranks) × ((k : ℕ) → k < i → get_or ranks k 0 < rank) × ((k : ℕ) → i ≤ k → k < length ranks → rank < get_or ranks k 0) → Contains ranks rank → ⊥
@@ -47,7 +48,7 @@ pub has_rank : (grounds : GroundsView) → AreRanksOf grounds.case grounds.ranks
 has_rank grounds ranks (Source.Left number) counts = tt
 has_rank grounds ranks (Source.Right number) counts = tt
 has_rank grounds ranks (Source.Row rank number) counts =
-    All-contains (λ r. r < length grounds.case.order) grounds.ranks rank ranks.within (held grounds.part counts)
+    All-contains (λ r. r < length grounds.case.order) grounds.ranks rank ranks.below (held grounds.part counts)
   where
     held : (part : Part) → IsSourceOf part grounds.ranks (Source.Row rank number) → Contains grounds.ranks rank
     held Part.Left is = is

@@ -1,6 +1,5 @@
 -- What facts are derived from: the nodes of a case, and the axioms of it that count.
-use Rattle.std.specs.Prelude.{◌<◌, ◌≤◌, ℕ, List, Option, Some, None, length, All, ⊤}
-use Rattle.std.specs.List.Sorted.{IsStrictlyIncreasing}
+use Rattle.std.specs.Prelude.{◌≤◌, ℕ, List, Option, Some, None, ⊤}
 use Rattle.el_logic.specs.declared.types.Part.{Part}
 use Rattle.concept_store.specs.declared.types.Node.{Node}
 use Rattle.concept_store.specs.declared.types.NodeAxiom.{NodeAxiom}
@@ -16,11 +15,6 @@ pub record GroundsView : Type 0 where
 
 abbrev pub nodes_of : GroundsView → List Node
 nodes_of grounds = grounds.case.store.nodes
-
--- the ranks ascend, and the case has them
-pub record AreRanksOf (case : CaseView) (ranks : List ℕ) : Type 0 where
-  pub ascending : IsStrictlyIncreasing ranks
-  pub within : All (λ rank. rank < length case.order) ranks
 
 -- axioms of this source count
 abbrev pub IsCounting : GroundsView → Source → Type 0

@@ -25,7 +25,8 @@ pub struct Grounds<'a> {
 
 impl<'a> Model for Grounds<'a> {
     ghost use Rattle.case_tables.specs.Tables.{AreTablesOf};
-    ghost use Rattle.rule_steps.specs.Counted.{GroundsView, AreRanksOf};
+    ghost use Rattle.case_file.specs.Cases.{AreRanksOf};
+    ghost use Rattle.rule_steps.specs.Counted.{GroundsView};
     ghost use Rattle.rule_steps.specs.Inside.Codes.{grounds_code};
 
     ghost Value = { GroundsView };
@@ -47,7 +48,8 @@ impl<'a> Grounds<'a> {
     ghost use Rattle.case_tables.specs.Tables.{AreTablesOf};
     ghost use Rattle.case_tables.specs.declared.types.Restriction.{Restriction};
     ghost use Rattle.case_tables.specs.declared.types.Whole.{Whole};
-    ghost use Rattle.rule_steps.specs.Counted.{AreRanksOf, IsCounting};
+    ghost use Rattle.case_file.specs.Cases.{AreRanksOf};
+    ghost use Rattle.rule_steps.specs.Counted.{IsCounting};
     ghost use Rattle.rule_steps.specs.Inside.Entries.{AreEntriesOf};
 
     /// The grounds of a case, its tables, a part and ranks.

@@ -2,12 +2,13 @@
 
 ghost use Rattle.std.specs.Prelude.{◌+◌, ◌<◌, ◌≤◌, ◌⊎◌, ℕ, List, Some, Contains, length};
 ghost use Rattle.fact_table.specs.declared.types.Fact.{Fact};
+ghost use Rattle.fact_table.specs.declared.types.Proved.{Proved};
 ghost use Rattle.fact_layers.specs.Tops.{Topped};
 ghost use Rattle.el_rules.specs.Following.{AreClosed};
 ghost use Rattle.case_file.specs.declared.types.CaseInput.{CaseInput};
 ghost use Rattle.case_file.specs.Cases.{IsCaseInput, case_of};
 ghost use Rattle.rule_steps.specs.Counted.{GroundsView, IsCounted, IsCountedSince, nodes_of};
-ghost use Rattle.rule_steps.specs.Growing.{facts_in, HasGrown};
+ghost use Rattle.rule_steps.specs.Growing.{facts_in, AreDerived, HasGrown};
 ghost use Rattle.rule_steps.specs.Answering.{AreClosedBelow, IsAnswered, IsAnsweredByInclusions, AreBegunBelow};
 ghost use Rattle.rule_steps.specs.RowAxioms.{HaveRowsInclusions};
 
@@ -48,13 +49,22 @@ pub fn rows_have_inclusions()
 {}
 
 /// What is closed for some rows is closed for further ones once the inclusions of these are
-/// answered at each place.
+/// answered at each place. What is begun for some rows is begun for further ones, and what is
+/// derived for some ranks is derived for more.
 pub fn further_rows_need_only_their_inclusions()
-    ensures { (grounds : GroundsView) (olds : List ℕ) (first p : ℕ) (facts : List Fact)
+    ensures closed { (grounds : GroundsView) (olds : List ℕ) (first p : ℕ) (facts : List Fact)
         → HaveRowsInclusions grounds.case.over
         → ((rank : ℕ) → Contains grounds.ranks rank → Contains olds rank ⊎ (first ≤ rank))
         → AreClosedBelow (nodes_of grounds) (IsCounted (record grounds { ranks = olds })) p facts
         → ((k : ℕ) → k < p → IsAnsweredByInclusions (nodes_of grounds)
         (IsCountedSince (Some first) grounds) k facts)
         → AreClosedBelow (nodes_of grounds) (IsCounted grounds) p facts }
+    ensures begun { (grounds : GroundsView) (olds : List ℕ) (first n : ℕ) (facts : List Fact)
+        → HaveRowsInclusions grounds.case.over
+        → ((rank : ℕ) → Contains grounds.ranks rank → Contains olds rank ⊎ (first ≤ rank))
+        → AreBegunBelow (nodes_of grounds) (IsCounted (record grounds { ranks = olds })) n facts
+        → AreBegunBelow (nodes_of grounds) (IsCounted grounds) n facts }
+    ensures derived { (grounds : GroundsView) (more : List ℕ) (items : List Proved)
+        → ((rank : ℕ) → Contains grounds.ranks rank → Contains more rank)
+        → AreDerived grounds items → AreDerived (record grounds { ranks = more }) items }
 {}

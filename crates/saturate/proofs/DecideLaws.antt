@@ -10,12 +10,12 @@ use Rattle.fact_table.specs.Lists.{facts_of}
 use Rattle.fact_layers.specs.Tops.{Topped, whole}
 use Rattle.el_rules.specs.Theories.{IsStated}
 use Rattle.el_rules.specs.Following.{EachFollowsByReason, AreClosed}
-use Rattle.case_file.specs.Cases.{CaseView, IsMustHave, theory_of}
+use Rattle.case_file.specs.Cases.{CaseView, AreRanksOf, IsMustHave, theory_of}
 use Rattle.case_file.specs.Incoherence.{IsEmptyFor, IsIncoherentFor}
 use Rattle.case_tables.specs.Tables.{TableLists, AreTablesOf}
 use Rattle.derivation.specs.declared.types.Step.{Step}
 use Rattle.derivation.specs.Steps.{AreGoodSteps, EndsIn, IsGoodDerivation}
-use Rattle.closed_model.specs.ClosedTables.{AreRanksOf, IsClosedTable}
+use Rattle.closed_model.specs.ClosedTables.{IsClosedTable}
 use Rattle.rule_steps.specs.Counted.{GroundsView}
 use Rattle.rule_steps.specs.Growing.{facts_in, AreDerived}
 use Rattle.saturate.specs.Decisions.{ShowsFirstEmpty}

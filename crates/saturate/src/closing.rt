@@ -11,9 +11,7 @@ use crate::clashes::clash_from;
 use case_file::Case;
 use fact_layers::Layers;
 use fact_table::FactsByPlace;
-use rule_steps::{
-    Grounds, an_answered_place_is_closed, answer, begin, growing_takes_nothing_away,
-};
+use rule_steps::{Grounds, an_answered_place_is_closed, answer, begin, growing_takes_nothing_away};
 use std::alloc::AllocError;
 
 /// Adds whatever the rules without premises give.

@@ -28,11 +28,7 @@ use std::alloc::{AllocError, Global};
 use std::sync::Arc;
 
 // What follows from both documents, if they leave no class empty.
-fn coherent_facts(
-    alloc: Global,
-    case: &Case,
-    tables: &Tables,
-) -> Result<Option<Layers>, AllocError>
+fn coherent_facts(alloc: Global, case: &Case, tables: &Tables) -> Result<Option<Layers>, AllocError>
     requires { AreTablesOf case.now tables.now }
     ensures { IfOk result (λ found. MatchOption found (IsIncoherentFor case.now Part.Both [])
         (λ layers. IsClosedTable (table_of case.now tables.now [] (whole layers)))) }

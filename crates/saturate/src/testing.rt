@@ -2,7 +2,7 @@
 
 ghost use Rattle.std.specs.Prelude.{◌≡◌, ◌<◌, ◌++◌, ◌∷◌, [], IfOk, All, length, slice_get};
 ghost use Rattle.std.specs.List.Sorted.{IsStrictlyIncreasing};
-ghost use Rattle.closed_model.specs.ClosedTables.{AreRanksOf};
+ghost use Rattle.case_file.specs.Cases.{AreRanksOf};
 ghost use Rattle.saturate.specs.Decisions.{IsVerdict};
 ghost use Rattle.saturate.specs.Inside.Saturated.{AddsRanks};
 

@@ -14,7 +14,7 @@ returns-clause-closed c table ranks first more is closed added answered =
     let case = table.case in
     let facts = facts_of table.items in
     let rows = subst HaveRowsInclusions (sym (ap (λ (v : CaseView). v.over) is.built)) (c.rows_have_inclusions.ensures (input_of case) is.given) in
-    c.further_rows_need_only_their_inclusions.ensures (grounds_of case ranks) table.ranks first (length facts) (facts ++ more) rows added.since
+    c.further_rows_need_only_their_inclusions.ensures.closed (grounds_of case ranks) table.ranks first (length facts) (facts ++ more) rows added.since
     (closed_in_longer case.store.nodes (IsStated (theory_of case) Part.Both table.ranks) facts more closed.closed)
     answered
 

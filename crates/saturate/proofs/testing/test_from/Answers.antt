@@ -34,9 +34,9 @@ returns-in_ok-trace-in-Some c =
     let found = node_of_clash grounds case Part.Both ranks (facts_in layers) place is clash in
     let follows = follows_at grounds case Part.Both ranks items is c.saturate_until_clash.ensures.derived in (
       clash_incoherent case Part.Both ranks (facts_in layers) place
-      (λ node must there. c.facts_show_emptiness.ensures case Part.Both ranks items node is_case c.requires.ranks.below follows must there) found,
+          (λ node must there. c.facts_show_emptiness.ensures case Part.Both ranks items node is_case c.requires.ranks.below follows must there) found,
       (good_trace case Part.Both ranks items place found.0 c.in_ok-trace-in-Some.field-0 (c.traces_are_good.ensures.good case Part.Both ranks items place c.in_ok-trace-in-Some.field-0 follows c.in_ok-trace-in-Some.ensures)
-      (λ item at. c.traces_are_good.ensures.goal items place c.in_ok-trace-in-Some.field-0 item c.in_ok-trace-in-Some.ensures at) found.1 found.2).0,
+          (λ item at. c.traces_are_good.ensures.goal items place c.in_ok-trace-in-Some.field-0 item c.in_ok-trace-in-Some.ensures at) found.1 found.2).0,
     )
 
 pub frozen-requires : goal.frozen-requires

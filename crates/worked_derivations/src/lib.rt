@@ -1,9 +1,0 @@
-//! Worked derivations over cases that are made from texts. The crate holds tests alone.
-#![tactic(auto)]
-
-#[cfg(test)]
-mod rules;
-#[cfg(test)]
-mod rows;
-#[cfg(test)]
-mod setting;
