@@ -1,5 +1,5 @@
 -- Facts that leave a node empty that must have a member.
-use Rattle.std.proofs.Common.{IsTrue, false, ◌≡◌, ◌∙◌, ℕ, ◌+◌, ◌<◌, ◌≤◌, List, ◌++◌, length, Contains, Some, refl, ap, sym, subst, ⊎_elim, arith}
+use Rattle.std.proofs.Common.{IsTrue, false, ◌≡◌, ◌∙◌, ℕ, ◌+◌, ◌≤◌, List, ◌++◌, length, Contains, Some, refl, ap, sym, subst, ⊎_elim, arith}
 use Rattle.std.specs.Prelude.{slice_get}
 use Rattle.std.specs.Option.{option_map}
 use Rattle.std.proofs.lemmas.Bool.{cases_lt}
@@ -11,7 +11,7 @@ use Rattle.fact_table.specs.declared.types.Fact.TheVariants.{Sub}
 use Rattle.fact_table.specs.declared.types.Proved.{Proved}
 use Rattle.fact_table.specs.Lists.{facts_of, IsAbsent}
 use Rattle.case_file.specs.Cases.{CaseView, IsMustHave}
-use Rattle.saturate.specs.Inside.Clashes.{IsClash, HasClashAt, AreLiveWithin, AreLiveNodes}
+use Rattle.saturate.specs.Inside.Clashes.{IsClash, AreLiveWithin, AreLiveNodes}
 use Rattle.saturate.proofs.Places.{was_at, place_of}
 
 -- a test that failed did not pass

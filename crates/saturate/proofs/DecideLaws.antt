@@ -1,5 +1,5 @@
 -- What saturated facts decide.
-use Rattle.std.proofs.Common.{◌≡◌, ◌∙◌, ℕ, ◌<◌, ◌≤◌, List, [], ◌∷◌, length, All, Contains, Option, Some, None, MatchOption, refl, inl, ap, sym, subst, arith}
+use Rattle.std.proofs.Common.{◌≡◌, ◌∙◌, ℕ, ◌<◌, List, [], length, Contains, Option, Some, None, MatchOption, refl, inl, ap, sym, subst, arith}
 use Rattle.std.specs.Prelude.{slice_get}
 use Rattle.std.proofs.lemmas.Option.{slice_get_within}
 use Rattle.el_logic.specs.declared.types.Part.{Part}

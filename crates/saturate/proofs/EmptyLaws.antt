@@ -1,5 +1,5 @@
 -- A node that facts put within owl:Nothing is empty.
-use Rattle.std.proofs.Common.{◌≡◌, ◌∙◌, ℕ, suc, ◌+◌, ◌<◌, sym, subst, ⊎_elim, arith}
+use Rattle.std.proofs.Common.{◌≡◌, ℕ, suc, ◌+◌, ◌<◌, sym, subst, ⊎_elim, arith}
 use Rattle.el_logic.specs.declared.types.Interp.{Interp}
 use Rattle.el_logic.specs.Meaning.{IsMember}
 use Rattle.concept_store.specs.declared.types.Node.TheVariants.{Top, Class}

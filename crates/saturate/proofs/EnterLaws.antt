@@ -1,11 +1,9 @@
 -- A closed table to which rows are added.
-use Rattle.std.proofs.Common.{◌≡◌, ◌∙◌, ℕ, ◌≤◌, List, ◌++◌, length, ap, sym, subst, arith}
-use Rattle.el_logic.specs.declared.types.Part.{Part}
+use Rattle.std.proofs.Common.{◌≡◌, ◌∙◌, ℕ, List, ◌++◌, length, ap, sym, subst, arith}
 use Rattle.fact_table.specs.declared.types.Fact.{Fact}
-use Rattle.fact_table.specs.declared.types.Proved.{Proved}
 use Rattle.fact_table.specs.Lists.{facts_of}
 use Rattle.fact_layers.specs.Tops.{Topped, whole}
-use Rattle.case_file.specs.Cases.{CaseView, theory_of}
+use Rattle.case_file.specs.Cases.{theory_of}
 use Rattle.closed_model.specs.ClosedTables.{TableView, IsClosedTable}
 use Rattle.rule_steps.specs.Counted.{GroundsView, IsCounted, nodes_of}
 use Rattle.rule_steps.specs.Growing.{facts_in, AreDerived, AreLinksWithin, HasGrown}

@@ -1,5 +1,5 @@
 -- What a rule gives when its premises and axioms change.
-use Rattle.std.proofs.Common.{◌≡◌, ℕ, ◌<◌, List}
+use Rattle.std.proofs.Common.{List}
 use Rattle.concept_store.specs.declared.types.Node.{Node}
 use Rattle.concept_store.specs.declared.types.NodeAxiom.{NodeAxiom}
 use Rattle.fact_table.specs.declared.types.Fact.{Fact}

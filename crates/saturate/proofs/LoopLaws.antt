@@ -1,6 +1,5 @@
 -- Loops over places and nodes, while facts are added.
 use Rattle.std.proofs.Common.{◌≡◌, ℕ, ◌+◌, ◌<◌, ◌≤◌, List, Some, ◌++◌, length, length-append, sym, subst, ⊎_elim, arith}
-use Rattle.std.specs.Prelude.{slice_get}
 use Rattle.std.proofs.lemmas.Bool.{cases_lt}
 use Rattle.std.proofs.lemmas.List.Elements.{Contains-append_left}
 use Rattle.concept_store.specs.declared.types.Node.{Node}
@@ -10,7 +9,7 @@ use Rattle.fact_table.specs.declared.types.Rule.{Rule}
 use Rattle.fact_layers.specs.Tops.{Topped}
 use Rattle.el_rules.specs.Following.{IsPlacedBelow}
 use Rattle.case_file.specs.Cases.{CaseView}
-use Rattle.rule_steps.specs.Counted.{GroundsView, IsCounted, IsCountedSince, nodes_of}
+use Rattle.rule_steps.specs.Counted.{GroundsView, IsCountedSince, nodes_of}
 use Rattle.rule_steps.specs.Growing.{facts_in, HasGrown}
 use Rattle.rule_steps.specs.Answering.{IsAt, IsAnsweredFirst, IsAnsweredByInclusions, IsBegun, AreBegunBelow}
 use Rattle.saturate.specs.Inside.Clashes.{AreLiveWithin}

@@ -1,22 +1,22 @@
 -- The facts of a closed table, when rows are added.
-use Rattle.std.proofs.Common.{◌≡◌, ℕ, ◌+◌, ◌<◌, ◌≤◌, ◌⊎◌, List, [], ◌∷◌, ◌++◌, length, All, Contains, Some, refl, subst, arith}
-use Rattle.std.specs.Prelude.{slice_get, slice_index_or}
+use Rattle.std.proofs.Common.{ℕ, List, [], ◌++◌, length, Contains}
+use Rattle.std.specs.Prelude.{slice_index_or}
 use Rattle.std.proofs.lemmas.List.Elements.{Contains-append_left, All-contains}
 use Rattle.el_logic.specs.declared.types.Part.{Part}
 use Rattle.concept_store.specs.declared.types.Node.{Node}
 use Rattle.concept_store.specs.declared.types.NodeAxiom.{NodeAxiom}
-use Rattle.concept_store.specs.declared.types.NodeAxiom.TheVariants.{SubClass, SubRole, Reflexive}
+use Rattle.concept_store.specs.declared.types.NodeAxiom.TheVariants.{SubClass, SubRole}
 use Rattle.fact_table.specs.declared.types.Fact.{Fact}
 use Rattle.fact_table.specs.declared.types.Fact.TheVariants.{Sub, Link}
 use Rattle.fact_table.specs.declared.types.Rule.{Rule}
 use Rattle.fact_table.specs.declared.types.Source.{Source}
 use Rattle.el_rules.specs.Rules.{Gives}
 use Rattle.el_rules.specs.Saying.{MakesReflexive}
-use Rattle.el_rules.specs.Theories.{IsNamedBy, IsStated}
+use Rattle.el_rules.specs.Theories.{IsStated}
 use Rattle.el_rules.specs.Following.{AreClosed, IsPlacedBelow}
 use Rattle.case_file.specs.Cases.{CaseView, theory_of}
 use Rattle.rule_steps.specs.Counted.{IsCounted}
-use Rattle.rule_steps.specs.Answering.{AreClosedBelow, AreBegunBelow, IsNoFact}
+use Rattle.rule_steps.specs.Answering.{AreClosedBelow, IsNoFact}
 use Rattle.rule_steps.specs.RowAxioms.{IsInclusion, HaveRowsInclusions}
 use Rattle.saturate.specs.Inside.Saturated.{grounds_of}
 use Rattle.saturate.proofs.Giving.{gives_more}

@@ -1,5 +1,5 @@
 -- How a saturation begins, and what it has decided at its end.
-use Rattle.std.proofs.Common.{◌≡◌, ◌∙◌, ℕ, ◌+◌, ◌<◌, ◌≤◌, ◌⊎◌, List, [], ◌∷◌, ◌++◌, length, Contains, Option, Some, None, MatchOption, refl, ap, sym, subst, arith}
+use Rattle.std.proofs.Common.{◌≡◌, ℕ, ◌<◌, List, [], length, Contains, Option, Some, None, MatchOption, sym, subst, arith}
 use Rattle.std.specs.Prelude.{slice_get}
 use Rattle.std.proofs.lemmas.Option.{none-some}
 use Rattle.el_logic.specs.declared.types.Part.{Part}
@@ -10,14 +10,13 @@ use Rattle.fact_table.specs.declared.types.Fact.TheVariants.{Sub, Link}
 use Rattle.fact_table.specs.declared.types.Proved.{Proved}
 use Rattle.fact_table.specs.declared.types.Rule.{Rule}
 use Rattle.fact_table.specs.declared.types.Source.{Source}
-use Rattle.fact_table.specs.Lists.{facts_of}
 use Rattle.fact_layers.specs.Tops.{Topped, whole}
 use Rattle.el_rules.specs.Rules.{Gives, premises}
 use Rattle.el_rules.specs.Theories.{Theory, IsNamedBy, IsSourceOf}
 use Rattle.el_rules.specs.Following.{EachFollowsByReason, IsEarlier, IsPlacedBelow}
-use Rattle.case_file.specs.Cases.{CaseView, IsMustHave, theory_of}
+use Rattle.case_file.specs.Cases.{CaseView, IsMustHave}
 use Rattle.rule_steps.specs.Counted.{GroundsView, IsCounted, nodes_of}
-use Rattle.rule_steps.specs.Growing.{facts_in, AreDerived, HasGrown}
+use Rattle.rule_steps.specs.Growing.{facts_in, AreDerived}
 use Rattle.rule_steps.specs.Answering.{AreClosedBelow, AreBegunBelow}
 use Rattle.saturate.specs.Inside.Clashes.{IsClash, HasClashAt, AreLiveWithin}
 use Rattle.saturate.specs.Inside.Saturated.{IsReady, IsSaturated, IsLive}

@@ -1,5 +1,5 @@
 -- The roles that axioms over nodes lead to are roles of their store.
-use Rattle.std.proofs.Common.{◌≡◌, ◌∙◌, ℕ, zero, suc, ◌+◌, ◌-◌, ◌<◌, ◌≤◌, ◌⊎◌, inl, inr, List, [], ◌∷◌, ◌++◌, length, map, All, Contains, refl, ap, sym, subst, ⊎_elim, arith, length-append}
+use Rattle.std.proofs.Common.{◌≡◌, ◌∙◌, ℕ, suc, ◌+◌, ◌-◌, ◌<◌, ◌≤◌, inl, inr, List, [], ◌∷◌, ◌++◌, length, map, All, refl, ap, subst, arith, length-append}
 use Rattle.std.specs.List.{range_with_len}
 use Rattle.std.proofs.lemmas.List.{length-map}
 use Rattle.std.proofs.lemmas.List.FromFn.{length-range_with_len}
@@ -11,7 +11,7 @@ use Rattle.concept_store.specs.declared.types.NodeAxiom.{NodeAxiom}
 use Rattle.concept_store.specs.declared.types.RoleNode.TheVariants.{Named, Part}
 use Rattle.concept_store.specs.Trees.{Tree}
 use Rattle.concept_store.specs.Nodes.{over, all_over, part_count, parts_within}
-use Rattle.concept_store.specs.Roles.{properties, IsOver, parts_of, parts_in, roles_of}
+use Rattle.concept_store.specs.Roles.{IsOver, parts_of, parts_in, roles_of}
 use Rattle.el_rules.specs.Saying.{IncludesRole, Joins, JoinsAlong, MakesReflexive}
 
 -- the roles that an axiom leads to are below a number

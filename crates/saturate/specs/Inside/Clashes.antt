@@ -1,6 +1,5 @@
 -- Facts that leave a node empty that must have a member.
 use Rattle.std.specs.Prelude.{◌≡◌, ◌<◌, ◌≤◌, ℕ, List, Some, Contains, slice_get}
-use Rattle.el_logic.specs.declared.types.Part.{Part}
 use Rattle.fact_table.specs.declared.types.Fact.{Fact}
 use Rattle.fact_table.specs.declared.types.Fact.TheVariants.{Sub, Link}
 use Rattle.case_file.specs.Cases.{CaseView, IsMustHave}

@@ -1,8 +1,7 @@
 -- Facts with which a saturation begins and ends.
-use Rattle.std.specs.Prelude.{◌≡◌, ◌≤◌, ◌⊎◌, ℕ, List, length, Contains}
+use Rattle.std.specs.Prelude.{◌≤◌, ◌⊎◌, ℕ, List, length, Contains}
 use Rattle.el_logic.specs.declared.types.Part.{Part}
 use Rattle.fact_table.specs.declared.types.Proved.{Proved}
-use Rattle.fact_table.specs.Lists.{facts_of}
 use Rattle.fact_layers.specs.Tops.{Topped, whole}
 use Rattle.el_rules.specs.Following.{AreClosed}
 use Rattle.case_file.specs.Cases.{CaseView}

@@ -1,4 +1,4 @@
-use Rattle.std.proofs.Common.{Contains, sym, ap, subst}
+use Rattle.std.proofs.Common.{sym, ap, subst}
 use Rattle.concept_store.specs.Order.{AreInOrder}
 use Rattle.concept_store.specs.Roles.{Numbered}
 use Rattle.fact_table.specs.declared.types.Fact.TheVariants.{Sub}

@@ -1,5 +1,4 @@
-use Rattle.std.proofs.Common.{◌≡◌, ◌∙◌, [], Contains, subst, sym}
-use Rattle.std.specs.Arc.{arc_value}
+use Rattle.std.proofs.Common.{◌∙◌, [], Contains, subst, sym}
 use Rattle.std.proofs.lemmas.List.Elements.{All-nil}
 use Rattle.el_logic.specs.declared.types.Part.{Part}
 use Rattle.fact_layers.specs.Tops.{whole, Topped}
