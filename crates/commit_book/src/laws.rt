@@ -1,0 +1,76 @@
+//! What the crates below say of a book.
+
+ghost use Rattle.conflict_logic.specs.Sets.{IsClosedUnderAdding};
+ghost use Rattle.el_logic.specs.declared.types.Part.{Part};
+ghost use Rattle.case_file.specs.Incoherence.{IsIncoherentFor};
+ghost use Rattle.accuse_core.specs.Sound.{AreSound};
+ghost use Rattle.commit_book.specs.Books.{IsBook};
+ghost use Rattle.commit_book.specs.Inside.Laws.{KeptLaws, BlockLaws, JournalLaws, VerdictLaws, Laws};
+
+use crate::book::Book;
+use accuse_core::{
+    allowed_events_leave_sound_marks, blocks_keep_what_is_not_removed, events_leave_the_ranks,
+    journals_grow_by_an_event, kept_ranks_have_the_mark, kept_ranks_only_grow,
+};
+use case_file::more_rows_stay_incoherent;
+use closed_model::a_closed_table_shows_coherence;
+use derivation::{a_good_derivation_shows_incoherence, more_ranks_keep_a_derivation_good};
+
+fn kept_laws()
+    ensures { KeptLaws }
+{
+    kept_ranks_only_grow();
+    kept_ranks_have_the_mark();
+}
+
+fn block_laws()
+    ensures { BlockLaws }
+{
+    blocks_keep_what_is_not_removed();
+}
+
+fn journal_laws(book: &Book)
+    ensures { JournalLaws book.now.case }
+{
+    journals_grow_by_an_event(book);
+    events_leave_the_ranks();
+}
+
+fn verdict_laws(book: &Book)
+    ensures { VerdictLaws book.now.case }
+{
+    let _ = book.journal();
+    a_good_derivation_shows_incoherence();
+    a_closed_table_shows_coherence();
+    more_ranks_keep_a_derivation_good();
+}
+
+/// The laws that the calls rest on.
+pub fn laws(book: &Book)
+    ensures { Laws book.now.case }
+{
+    kept_laws();
+    block_laws();
+    journal_laws(book);
+    verdict_laws(book);
+}
+
+// More rows never make the case coherent, and the documents alone are coherent.
+fn family_laws(book: &Book)
+    ensures closed { IsClosedUnderAdding (IsIncoherentFor book.now.case Part.Both) }
+    ensures none { ¬ (IsIncoherentFor book.now.case Part.Both []) }
+{
+    let _ = book.journal();
+    more_rows_stay_incoherent();
+    a_closed_table_shows_coherence();
+}
+
+/// What the marks of a book say: a kept rank is spared, a removed one is not, and kept ranks before
+/// it refute it; the ranks before the front are decided, and the kept ranks are coherent.
+pub fn books_are_sound(book: &Book)
+    ensures { AreSound (IsIncoherentFor book.now.case Part.Both) book.now.marks }
+{
+    let _ = book.journal();
+    family_laws(book);
+    allowed_events_leave_sound_marks(book);
+}
