@@ -12,3 +12,4 @@ pub mod TestLaws
 pub mod ReadingLaws
 pub mod FrontLaws
 pub mod OverTrees
+pub mod OrderLaws

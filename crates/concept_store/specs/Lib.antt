@@ -1,5 +1,6 @@
 pub mod Trees
 pub mod Nodes
+pub mod Order
 pub mod Roles
 pub mod Reading
 pub mod Faults

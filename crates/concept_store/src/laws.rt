@@ -1,9 +1,11 @@
 //! Laws of nodes and their readings.
+
 ghost use Rattle.std.specs.Prelude.{ℕ, List, All};
 ghost use Rattle.el_logic.specs.declared.types.Axiom.{Axiom};
 ghost use Rattle.el_logic.specs.declared.types.Interp.{Interp};
 ghost use Rattle.el_logic.specs.Meaning.{IsInterp};
-ghost use Rattle.concept_store.specs.Reading.{Reading, IsReadingOf, ReadsParts};
+ghost use Rattle.concept_store.specs.Order.{AreInOrder};
+ghost use Rattle.concept_store.specs.Reading.{Reading, IsReadingOf, MeansTheSameIn, ReadsParts};
 ghost use Rattle.concept_store.specs.Roles.{AreOver, store_of};
 
 /// Each interpretation has a reading over the store of two ontologies, in which each part of a
@@ -14,4 +16,24 @@ pub fn every_interpretation_has_a_reading()
         → let store = store_of classes roles left right in
         (m : Reading) × IsReadingOf store.nodes roles i m
         × All (ReadsParts m) store.left × All (ReadsParts m) store.right }
+{}
+
+/// No node of a store stands twice, `owl:Thing`, `owl:Nothing` and the class names come first, and
+/// each part of a node stands before it.
+pub fn nodes_stand_in_order()
+    ensures { (classes roles : ℕ) (left right : List Axiom)
+        → AreOver classes roles left → AreOver classes roles right
+        → AreInOrder classes roles (store_of classes roles left right).nodes }
+{}
+
+/// The axioms of two ontologies mean the same over the nodes of their store.
+pub fn stores_mean_the_same()
+    ensures left { (classes roles : ℕ) (left right : List Axiom)
+        → AreOver classes roles left → AreOver classes roles right
+        → let store = store_of classes roles left right in
+        MeansTheSameIn classes roles store.nodes left store.left }
+    ensures right { (classes roles : ℕ) (left right : List Axiom)
+        → AreOver classes roles left → AreOver classes roles right
+        → let store = store_of classes roles left right in
+        MeansTheSameIn classes roles store.nodes right store.right }
 {}
