@@ -51,12 +51,14 @@ pub record IsTableFor (case : CaseView) (ranks : List ℕ) (table : TableView) :
   pub case_is : table.case ≡ case
   pub ranks_are : table.ranks ≡ ranks
 
--- each entry was allowed and has the core's reply; the marks are those that the journal leads to;
--- each removed rank has its derivation; the table is closed, for the kept ranks
+-- each entry was allowed and has the core's reply; the marks are those that the journal leads to, one
+-- for each rank of the case; each removed rank has its derivation; the table is closed, for the kept
+-- ranks
 pub record IsBook (book : BookView) : Type 0 where
   pub case_is : IsCase book.case
   pub journal : IsJournal (IsIncoherentFor book.case Part.Both) (ranks_of book.case) book.entries
   pub core : book.marks ≡ replayed (ranks_of book.case) book.entries
+  pub ranks : length book.marks ≡ ranks_of book.case
   pub whys : (rank : ℕ) → IsWhyOf book.case (kept_of book.marks) rank (mark_at book.marks rank)
       (why_at book.whys rank)
   pub table : IsTableFor book.case (kept_of book.marks) book.table

@@ -4,7 +4,6 @@ ghost use Rattle.std.specs.Prelude.{◌≡◌, ℕ, [], length, IfOk, OnOk, OnEr
 ghost use Rattle.std.specs.Option.{option_copied};
 ghost use Rattle.std.specs.Arc.{arc_value};
 ghost use Rattle.el_logic.specs.declared.types.Part.{Part};
-ghost use Rattle.case_file.specs.Cases.{IsCase};
 ghost use Rattle.case_file.specs.Incoherence.{IsIncoherentFor};
 ghost use Rattle.commit_book.specs.Books.{IsBook, opening_book, why_at, worker_of};
 
@@ -79,12 +78,12 @@ impl Book {
     /// The book in which nothing was told yet, with the table of the documents alone. It takes what
     /// memory the book needs for its ranks.
     pub fn new(alloc: Global, case: Arc<Case>, base: ClosedTable) -> Result<Book, AllocError>
-        requires case_is { IsCase (arc_value case) }
         requires case { base.case ≡ arc_value case }
         requires none { base.ranks ≡ [] }
         ensures { IfOk result (λ book. book ≡ opening_book base) }
     {
         let _ = base.case();
+        let _ = case.store();
         let ranks = case.ranks();
         let core = Core::new(alloc, ranks)?;
         let held = nothing_held(alloc, ranks)?;

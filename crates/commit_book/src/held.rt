@@ -60,17 +60,17 @@ pub fn drop_notes(held: &mut Vec<Held>, first: u32, count: u32)
         → held_at held.new.items rank ≡ held_at held.old.items rank }
 {
     for ahead in 0..count {
-        drop_note(held, first + ahead);
+        drop_note(held, first as usize + ahead as usize);
     }
 }
 
-fn drop_note(held: &mut Vec<Held>, rank: u32)
+fn drop_note(held: &mut Vec<Held>, rank: usize)
     requires { rank < length held.old.items }
     ensures { held.new.items
         ≡ slice_set held.old.items rank (without_note (held_at held.old.items rank)) }
 {
-    if let Held::Note(_) = held[rank as usize] {
-        held[rank as usize] = Held::Nothing;
+    if let Held::Note(_) = held[rank] {
+        held[rank] = Held::Nothing;
     }
 }
 
@@ -89,4 +89,16 @@ pub fn settle(core: &Core, held: &mut Vec<Held>, table: &mut ClosedTable)
         Held::Note(note) => *table = note,
         _ => unreachable!(),
     }
+}
+
+/// Puts what is held for a rank, before the front is taken anew.
+pub fn put(core: &Core, held: &mut Vec<Held>, table: &mut ClosedTable, rank: u32, item: Held)
+    requires inside { rank < length held.old.items }
+    requires put { let later = slice_set held.old.items rank item in
+        IsNearlySettled table.old.case core.now later table.old }
+    ensures settled { IsSettled table.old.case core.now held.new.items table.new }
+    ensures count { length held.new.items ≡ length held.old.items }
+{
+    hold(held, rank, item);
+    settle(core, held, table);
 }

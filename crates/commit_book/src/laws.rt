@@ -1,5 +1,6 @@
 //! What the crates below say of a book.
 
+ghost use Rattle.std.specs.Prelude.{[]};
 ghost use Rattle.conflict_logic.specs.Sets.{IsClosedUnderAdding};
 ghost use Rattle.el_logic.specs.declared.types.Part.{Part};
 ghost use Rattle.case_file.specs.Incoherence.{IsIncoherentFor};

@@ -10,3 +10,4 @@ mod telling;
 
 pub use answers::{FrontAnswer, TakeAnswer, Taken};
 pub use book::Book;
+pub use laws::books_are_sound;

@@ -81,6 +81,7 @@ pub record IsKept (case : CaseView) (marks : List Mark) (entries : List Entry) (
   pub case_is : IsCase case
   pub journal : IsJournal (IsIncoherentFor case Part.Both) (ranks_of case) entries
   pub core : marks ≡ replayed (ranks_of case) entries
+  pub ranks : length marks ≡ ranks_of case
   pub count : length held ≡ length marks
   pub settled : IsSettled case marks held table
 

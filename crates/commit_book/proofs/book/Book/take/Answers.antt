@@ -1,0 +1,44 @@
+use Rattle.std.proofs.Common.{◌≡◌, ◌<◌, length, refl, sym, subst, ap, ◌∙◌}
+use Rattle.std.specs.Prelude.{Some}
+use Rattle.accuse_core.specs.declared.event.Event.TheVariants as E
+use Rattle.accuse_core.specs.Marks.{kept_of}
+use Rattle.accuse_core.specs.Events.{on_take}
+use Rattle.commit_book.specs.Books.{BookView}
+use Rattle.commit_book.specs.Answers.{take_reply, GivesRank}
+use Rattle.commit_book.specs.Inside.Holdings.{IsKept, IsReady}
+use Rattle.commit_book.specs.Inside.Laws.{Laws}
+use Rattle.commit_book.proofs.EventLaws.{take_leaves}
+use Rattle.commit_book.proofs.PutLaws.{take_over, take_seen, snapshot_for, after_same}
+use Rattle.commit_book.proofs.book.Book.take.Goals.{in-Seen, in_default-enter}
+use Rattle.commit_book.proofs.book.Book.take.Goals as goal
+
+pub invariant_of-self : goal.invariant_of-self
+invariant_of-self c =
+    let laws = subst (λ (b : BookView). Laws b.case) (sym c.self.view_is) c.laws.ensures in
+    let rank = subst (λ (b : BookView). c.args.rank < length b.marks) (sym c.self.view_is) c.requires.rank in (
+      after_same c.self.inside.case.value laws c.self.inside.core c.enter.new.core c.self.inside.journal.entries c.enter.new.journal.entries
+          c.self.inside.held.items c.self.inside.table (E.Take c.args.worker c.args.rank) c.self.invariant.0
+          (record { fits = rank; verdict = tt }) (take_leaves c.self.inside.core c.args.rank) c.enter.ensures.marks c.enter.ensures.entries,
+      subst (IsReady c.self.inside.table c.enter.new.journal.room) (sym c.take.ensures.after) tt,
+    )
+
+pub returns-clause-reply : goal.returns-clause-reply
+returns-clause-reply c =
+    subst (λ (b : BookView). take_reply c.match-enter.result ≡ (on_take b.marks c.args.rank).reply) c.self.view_is
+    (elim c.match-enter.branch [
+      | in-Seen w ↦ rw w.result-is (sym w.in-Seen.is ∙ c.enter.ensures.reply)
+      | in_default-enter w ↦ rw w.result-is (sym (take_over c.self.inside.core c.args.rank (λ seen is. w.in_default-enter.not-Seen seen (c.enter.ensures.reply ∙ is))))
+    ])
+
+pub returns-clause-given : goal.returns-clause-given
+returns-clause-given c =
+    subst (λ (b : BookView). GivesRank b c.args.rank c.match-enter.result) c.self.view_is
+    (elim c.match-enter.branch [
+      | in-Seen w ↦ rw w.result-is (
+        refl,
+        snapshot_for c.self.inside.case.value (kept_of c.self.inside.core) c.self.inside.table c.in-Some.snapshot c.self.inside.journal.room
+            w.in-Seen.seen c.self.inside.next c.self.invariant.0.settled.is_for c.self.invariant.1 (sym c.take.ensures.value ∙ c.in-Some.is)
+            (take_seen c.self.inside.core c.args.rank w.in-Seen.seen (sym c.enter.ensures.reply ∙ w.in-Seen.is)),
+      )
+      | in_default-enter w ↦ rw w.result-is tt
+    ])
