@@ -32,7 +32,7 @@ contains_filter p (y ∷ ys) x passes (suc k, within, at) = ⊎_elim
     (cases_Bool (p y))
 
 -- what is in the front of a list is in the list
-contains_take : (n : ℕ) (xs : List ℕ) (x : ℕ) → Contains (take n xs) x → Contains xs x
+pub contains_take : (n : ℕ) (xs : List ℕ) (x : ℕ) → Contains (take n xs) x → Contains xs x
 contains_take zero xs x (k, within, at) = absurd (omega arith)
 contains_take (suc n) [] x there = there
 contains_take (suc n) (y ∷ ys) x (zero, within, at) = (0, omega arith, at)

@@ -1,9 +1,11 @@
 -- Each call: its event is allowed, what it puts leaves the marks backed, and the book keeps what it
 -- keeps.
-use Rattle.std.proofs.Common.{◌≡◌, ℕ, ◌+◌, ◌<◌, ◌≤◌, true, false, ⊎_elim, List, [], ◌∷◌, ◌++◌, length, set, take, eqb, refl, sym, subst, ap, ◌∙◌, arith}
+use Rattle.std.proofs.Common.{◌≡◌, ℕ, ◌+◌, ◌<◌, ◌≤◌, true, false, ⊎_elim, List, [], ◌∷◌, ◌++◌, length, set, take, Contains, eqb, refl, sym, subst, ap, ◌∙◌, arith}
 use Rattle.std.specs.Prelude.{Option, Some}
 use Rattle.std.proofs.Math.Seq.{take-length}
 use Rattle.std.proofs.lemmas.Bool.{cases_Bool}
+use Rattle.std.proofs.lemmas.List.Elements.{Contains-push_cases}
+use Rattle.std.proofs.lemmas.List.Sums.{prefix_len-le-length}
 use Rattle.el_logic.specs.declared.types.Part.{Part}
 use Rattle.case_file.specs.Cases.{CaseView}
 use Rattle.case_file.specs.Incoherence.{IsIncoherentFor}
@@ -25,6 +27,7 @@ use Rattle.commit_book.specs.Books.{IsTableFor, entry_of}
 use Rattle.commit_book.specs.Inside.Holdings.{IsNoteFor, IsSettled, IsNearlySettled, IsKept, IsReady}
 use Rattle.commit_book.specs.Inside.Laws.{Laws}
 use Rattle.commit_book.proofs.FrontLaws.{block_ahead}
+use Rattle.commit_book.proofs.BackLaws.{contains_take}
 use Rattle.commit_book.proofs.SettleLaws.{nearly_settled}
 use Rattle.commit_book.proofs.EventLaws.{kept_after, kept_same, removed_settled, removed_ahead, noted_settled, noted_ahead, front_settled, front_ahead}
 use Rattle.commit_book.proofs.TellLaws.{no_marked, yes_kept, yes_noted, HasLostNotes, block_settled}
@@ -60,11 +63,27 @@ snapshot_for case kept table share room seen next is_for ready is_next all =
     }
 
 module _ (case : CaseView) (laws : Laws case) where
-  pub no_allowed : (marks : List Mark) (worker rank seen : ℕ) (steps : List Step) → IsFittingVerdict marks rank seen
+  -- the first kept ranks, and a rank, are ranks of the case
+  ranks_inside : (marks : List Mark) (entries : List Entry) (held : List Held) (table : TableView) (rank seen : ℕ) → AreKeptBeforeFront marks
+      → IsKept case marks entries held table → rank < length marks
+      → (other : ℕ) → Contains (take seen (kept_of marks) ++ rank ∷ []) other → other < length case.order
+  ranks_inside marks entries held table rank seen ahead kept inside other there =
+      let count = kept.ranks in
+      ⊎_elim
+      (λ (first : Contains (take seen (kept_of marks)) other).
+      let before = ahead other (contains_take seen (kept_of marks) other first) in
+      omega (arith, prefix_len-le-length is_decided marks))
+      (λ (last : rank ≡ other). omega arith)
+      (Contains-push_cases (take seen (kept_of marks)) rank other there)
+
+  pub no_allowed : (marks : List Mark) (entries : List Entry) (held : List Held) (table : TableView) (worker rank seen : ℕ) (steps : List Step)
+      → AreKeptBeforeFront marks → IsKept case marks entries held table → IsFittingVerdict marks rank seen
       → IsGoodDerivation case Part.Both (take seen (kept_of marks) ++ rank ∷ []) steps
       → IsAllowed (IsIncoherentFor case Part.Both) marks (E.No worker rank seen)
-  no_allowed marks worker rank seen steps fits good =
-      record { fits = fits; verdict = laws.verdict.no (take seen (kept_of marks) ++ rank ∷ []) steps good }
+  no_allowed marks entries held table worker rank seen steps ahead kept fits good = record {
+    fits = fits;
+    verdict = laws.verdict.no (take seen (kept_of marks) ++ rank ∷ []) steps (ranks_inside marks entries held table rank seen ahead kept fits.0) good;
+  }
 
   -- ranks of which there is a closed table are coherent
   coherent : (table : TableView) (ranks : List ℕ) → IsTableFor case ranks table → IsClosedTable table → ¬ (IsIncoherentFor case Part.Both ranks)

@@ -15,7 +15,7 @@ use accuse_core::{
 };
 use case_file::more_rows_stay_incoherent;
 use closed_model::a_closed_table_shows_coherence;
-use derivation::{a_good_derivation_shows_incoherence, more_ranks_keep_a_derivation_good};
+use derivation::{good_derivations_show_incoherence, good_derivations_stay_good_for_more_ranks};
 
 fn kept_laws()
     ensures { KeptLaws }
@@ -41,9 +41,9 @@ fn verdict_laws(book: &Book)
     ensures { VerdictLaws book.now.case }
 {
     let _ = book.journal();
-    a_good_derivation_shows_incoherence();
+    good_derivations_show_incoherence();
     a_closed_table_shows_coherence();
-    more_ranks_keep_a_derivation_good();
+    good_derivations_stay_good_for_more_ranks();
 }
 
 /// The laws that the calls rest on.

@@ -58,6 +58,7 @@ pub record JournalLaws (case : CaseView) : Type 0 where
 -- what derivations and tables show
 pub record VerdictLaws (case : CaseView) : Type 0 where
   pub no : (ranks : List ℕ) (steps : List Step)
+      → ((rank : ℕ) → Contains ranks rank → rank < length case.order)
       → IsGoodDerivation case Part.Both ranks steps → IsIncoherentFor case Part.Both ranks
   pub yes : (table : TableView) → table.case ≡ case → IsClosedTable table
       → ¬ (IsIncoherentFor case Part.Both table.ranks)

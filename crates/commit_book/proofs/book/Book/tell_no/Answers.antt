@@ -24,11 +24,12 @@ put-requires-clause-put c =
 pub invariant_of-self : goal.invariant_of-self
 invariant_of-self c =
     let laws = subst (λ (b : BookView). Laws b.case) (sym c.self.view_is) c.laws.ensures in
+    let ahead = subst (λ (b : BookView). AreKeptBeforeFront b.marks) (sym c.self.view_is) c.books_are_sound.ensures.kept_before_front in
     let fits = subst (λ (b : BookView). IsFittingVerdict b.marks c.args.rank c.args.seen) (sym c.self.view_is) c.requires.fits in
     let good = subst (λ (b : BookView). IsGoodDerivation b.case Part.Both (take c.args.seen (kept_of b.marks) ++ c.args.rank ∷ []) c.args.why) (sym c.self.view_is) c.requires.good in (
       after_call c.self.inside.case.value laws c.self.inside.core c.enter-reply.new.core c.self.inside.journal.entries c.enter-reply.new.journal.entries
           c.self.inside.held.items c.put.new.held.items c.self.inside.table c.put.new.table (E.No c.args.worker c.args.rank c.args.seen) c.self.inside.table.case
-          c.self.invariant.0 (no_allowed c.self.inside.case.value laws c.self.inside.core c.args.worker c.args.rank c.args.seen c.args.why fits good)
+          c.self.invariant.0 (no_allowed c.self.inside.case.value laws c.self.inside.core c.self.inside.journal.entries c.self.inside.held.items c.self.inside.table c.args.worker c.args.rank c.args.seen c.args.why ahead c.self.invariant.0 fits good)
           c.enter-reply.ensures.marks c.enter-reply.ensures.entries c.self.invariant.0.settled.is_for.case_is c.put.ensures.count c.put.ensures.settled,
       tt,
     )
@@ -36,11 +37,12 @@ invariant_of-self c =
 pub invariant_of-self-in-Over-1 : goal.invariant_of-self-in-Over-1
 invariant_of-self-in-Over-1 c =
     let laws = subst (λ (b : BookView). Laws b.case) (sym c.self.view_is) c.laws.ensures in
+    let ahead = subst (λ (b : BookView). AreKeptBeforeFront b.marks) (sym c.self.view_is) c.books_are_sound.ensures.kept_before_front in
     let fits = subst (λ (b : BookView). IsFittingVerdict b.marks c.args.rank c.args.seen) (sym c.self.view_is) c.requires.fits in
     let good = subst (λ (b : BookView). IsGoodDerivation b.case Part.Both (take c.args.seen (kept_of b.marks) ++ c.args.rank ∷ []) c.args.why) (sym c.self.view_is) c.requires.good in (
       after_same c.self.inside.case.value laws c.self.inside.core c.enter-reply.new.core c.self.inside.journal.entries c.enter-reply.new.journal.entries
           c.self.inside.held.items c.self.inside.table (E.No c.args.worker c.args.rank c.args.seen) c.self.invariant.0
-          (no_allowed c.self.inside.case.value laws c.self.inside.core c.args.worker c.args.rank c.args.seen c.args.why fits good)
+          (no_allowed c.self.inside.case.value laws c.self.inside.core c.self.inside.journal.entries c.self.inside.held.items c.self.inside.table c.args.worker c.args.rank c.args.seen c.args.why ahead c.self.invariant.0 fits good)
           (no_late c.self.inside.core c.args.rank (λ marked. c.in_default.not-Marked (c.enter-reply.ensures.reply ∙ marked)))
           c.enter-reply.ensures.marks c.enter-reply.ensures.entries,
       tt,
