@@ -6,3 +6,4 @@ pub mod TellLaws
 pub mod RankLaws
 pub mod OpeningLaws
 pub mod PutLaws
+pub mod CallLaws

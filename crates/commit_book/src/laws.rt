@@ -4,7 +4,7 @@ ghost use Rattle.std.specs.Prelude.{[]};
 ghost use Rattle.conflict_logic.specs.Sets.{IsClosedUnderAdding};
 ghost use Rattle.el_logic.specs.declared.types.Part.{Part};
 ghost use Rattle.case_file.specs.Incoherence.{IsIncoherentFor};
-ghost use Rattle.accuse_core.specs.Sound.{AreSound};
+ghost use Rattle.accuse_core.specs.Sound.{AreKeptBeforeFront, AreSound};
 ghost use Rattle.commit_book.specs.Books.{IsBook};
 ghost use Rattle.commit_book.specs.Inside.Laws.{KeptLaws, BlockLaws, JournalLaws, VerdictLaws, Laws};
 
@@ -46,16 +46,6 @@ fn verdict_laws(book: &Book)
     good_derivations_stay_good_for_more_ranks();
 }
 
-/// The laws that the calls rest on.
-pub fn laws(book: &Book)
-    ensures { Laws book.now.case }
-{
-    kept_laws();
-    block_laws();
-    journal_laws(book);
-    verdict_laws(book);
-}
-
 // More rows never make the case coherent, and the documents alone are coherent.
 fn family_laws(book: &Book)
     ensures closed { IsClosedUnderAdding (IsIncoherentFor book.now.case Part.Both) }
@@ -74,4 +64,16 @@ pub fn books_are_sound(book: &Book)
     let _ = book.journal();
     family_laws(book);
     allowed_events_leave_sound_marks(book);
+}
+
+/// What the calls rest on: the laws, and that the kept ranks are before the front.
+pub fn laws(book: &Book)
+    ensures laws { Laws book.now.case }
+    ensures ahead { AreKeptBeforeFront book.now.marks }
+{
+    kept_laws();
+    block_laws();
+    journal_laws(book);
+    verdict_laws(book);
+    books_are_sound(book);
 }

@@ -12,7 +12,7 @@ ghost use Rattle.commit_book.specs.Answers.{take_reply, front_reply, GivesRank, 
 use crate::answers::{FrontAnswer, TakeAnswer, Taken};
 use crate::book::Book;
 use crate::held::{Held, drop_notes, put, settle};
-use crate::laws::{books_are_sound, laws};
+use crate::laws::laws;
 use accuse_core::{Core, Entries, Entry, Event, Reply};
 use closed_model::ClosedTable;
 use derivation::Derivation;
@@ -53,11 +53,8 @@ impl Book {
         let Some(snapshot) = self.next.take() else {
             unreachable!()
         };
-        match enter(
-            &mut self.core,
-            &mut self.journal,
-            Event::Take { worker, rank },
-        ) {
+        let event = Event::Take { worker, rank };
+        match enter(&mut self.core, &mut self.journal, event) {
             Reply::Seen(seen) => TakeAnswer::Seen(Taken {
                 rank,
                 seen,
@@ -78,11 +75,8 @@ impl Book {
         let Some(snapshot) = self.next.take() else {
             unreachable!()
         };
-        match enter(
-            &mut self.core,
-            &mut self.journal,
-            Event::TakeFront { worker },
-        ) {
+        let event = Event::TakeFront { worker };
+        match enter(&mut self.core, &mut self.journal, event) {
             Reply::Front(rank, seen) => FrontAnswer::Front(Taken {
                 rank,
                 seen,
@@ -102,13 +96,9 @@ impl Book {
         ensures reply { result ≡ (outcome self.old.marks (E.No worker rank seen)).reply }
     {
         laws(self);
-        books_are_sound(self);
         self.next = None;
-        let reply = enter(
-            &mut self.core,
-            &mut self.journal,
-            Event::No { worker, rank, seen },
-        );
+        let event = Event::No { worker, rank, seen };
+        let reply = enter(&mut self.core, &mut self.journal, event);
         match reply {
             Reply::Marked => {
                 let item = Held::Why(why);
@@ -130,14 +120,10 @@ impl Book {
         ensures reply { result ≡ (outcome self.old.marks (E.Yes worker rank seen)).reply }
     {
         laws(self);
-        books_are_sound(self);
         let _ = table.case();
         self.next = None;
-        let reply = enter(
-            &mut self.core,
-            &mut self.journal,
-            Event::Yes { worker, rank, seen },
-        );
+        let event = Event::Yes { worker, rank, seen };
+        let reply = enter(&mut self.core, &mut self.journal, event);
         match reply {
             Reply::Kept => {
                 self.table = table;
@@ -174,7 +160,6 @@ impl Book {
             result ≡ (outcome marks event).reply }
     {
         laws(self);
-        books_are_sound(self);
         let _ = table.case();
         self.next = None;
         let rank = self.core.front();

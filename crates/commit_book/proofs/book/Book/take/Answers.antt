@@ -1,24 +1,18 @@
-use Rattle.std.proofs.Common.{◌≡◌, ◌<◌, length, refl, sym, subst, ap, ◌∙◌}
-use Rattle.std.specs.Prelude.{Some}
-use Rattle.accuse_core.specs.declared.event.Event.TheVariants as E
+use Rattle.std.proofs.Common.{◌≡◌, refl, sym, subst, ◌∙◌}
 use Rattle.accuse_core.specs.Marks.{kept_of}
 use Rattle.accuse_core.specs.Events.{on_take}
 use Rattle.commit_book.specs.Books.{BookView}
 use Rattle.commit_book.specs.Answers.{take_reply, GivesRank}
-use Rattle.commit_book.specs.Inside.Holdings.{IsKept, IsReady}
-use Rattle.commit_book.specs.Inside.Laws.{Laws}
-use Rattle.commit_book.proofs.EventLaws.{take_leaves}
-use Rattle.commit_book.proofs.PutLaws.{take_over, take_seen, snapshot_for, after_same}
+use Rattle.commit_book.specs.Inside.Holdings.{IsReady}
+use Rattle.commit_book.proofs.PutLaws.{take_over, take_seen, snapshot_for}
+use Rattle.commit_book.proofs.CallLaws.{called, take_keeps}
 use Rattle.commit_book.proofs.book.Book.take.Goals.{in-Seen, in_default-enter}
 use Rattle.commit_book.proofs.book.Book.take.Goals as goal
 
 pub invariant_of-self : goal.invariant_of-self
 invariant_of-self c =
-    let laws = subst (λ (b : BookView). Laws b.case) (sym c.self.view_is) c.laws.ensures in
-    let rank = subst (λ (b : BookView). c.args.rank < length b.marks) (sym c.self.view_is) c.requires.rank in (
-      after_same c.self.inside.case.value laws c.self.inside.core c.enter.new.core c.self.inside.journal.entries c.enter.new.journal.entries
-          c.self.inside.held.items c.self.inside.table (E.Take c.args.worker c.args.rank) c.self.invariant.0
-          (record { fits = rank; verdict = tt }) (take_leaves c.self.inside.core c.args.rank) c.enter.ensures.marks c.enter.ensures.entries,
+    let call = called _ _ _ _ c.self.view_is c.laws.ensures.laws c.laws.ensures.ahead c.self.invariant.0 in (
+      take_keeps call c.args.worker c.args.rank c.enter.new.core c.enter.new.journal.entries c.requires.rank c.enter.ensures.marks c.enter.ensures.entries,
       subst (IsReady c.self.inside.table c.enter.new.journal.room) (sym c.take.ensures.after) tt,
     )
 
