@@ -80,9 +80,9 @@ opening_book base = record {
 abbrev pub entry_of : List Mark → Event → Entry
 entry_of marks event = record { event = event; reply = (outcome marks event).reply }
 
--- the event came: the core has changed by it, and the journal has one more entry, with the core's
--- reply
-pub record HasTaken (event : Event) (before after : BookView) : Type 0 where
+-- the event is entered: the core has changed by it, and the journal has one more entry, with the
+-- core's reply
+pub record EntersEvent (event : Event) (before after : BookView) : Type 0 where
   pub case : after.case ≡ before.case
   pub marks : after.marks ≡ (outcome before.marks event).marks
   pub entries : after.entries ≡ before.entries ++ entry_of before.marks event ∷ []

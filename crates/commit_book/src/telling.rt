@@ -6,7 +6,7 @@ ghost use Rattle.derivation.specs.Steps.{IsGoodDerivation};
 ghost use Rattle.accuse_core.specs.declared.event.Event.TheVariants as E;
 ghost use Rattle.accuse_core.specs.Marks.{kept_of, number_kept, front_of, block_of};
 ghost use Rattle.accuse_core.specs.Events.{IsFitting, outcome};
-ghost use Rattle.commit_book.specs.Books.{IsTableFor, entry_of, HasTaken};
+ghost use Rattle.commit_book.specs.Books.{IsTableFor, entry_of, EntersEvent};
 ghost use Rattle.commit_book.specs.Answers.{take_reply, front_reply, GivesRank, GivesFront};
 
 use crate::answers::{FrontAnswer, TakeAnswer, Taken};
@@ -45,7 +45,7 @@ impl Book {
     pub fn take(&mut self, worker: u32, rank: u32) -> TakeAnswer
         requires spare { self.old.spare ≡ 1 }
         requires rank { rank < length self.old.marks }
-        ensures told { HasTaken (E.Take worker rank) self.old self.new }
+        ensures told { EntersEvent (E.Take worker rank) self.old self.new }
         ensures reply { take_reply result ≡ (outcome self.old.marks (E.Take worker rank)).reply }
         ensures given { GivesRank self.old rank result }
     {
@@ -54,20 +54,20 @@ impl Book {
             unreachable!()
         };
         let event = Event::Take { worker, rank };
-        match enter(&mut self.core, &mut self.journal, event) {
-            Reply::Seen(seen) => TakeAnswer::Seen(Taken {
-                rank,
-                seen,
-                snapshot,
-            }),
-            _ => TakeAnswer::Over,
-        }
+        let Reply::Seen(seen) = enter(&mut self.core, &mut self.journal, event) else {
+            return TakeAnswer::Over;
+        };
+        TakeAnswer::Seen(Taken {
+            rank,
+            seen,
+            snapshot,
+        })
     }
 
     /// A worker asks for the rank at the front, to test it.
     pub fn take_front(&mut self, worker: u32) -> FrontAnswer
         requires { self.old.spare ≡ 1 }
-        ensures told { HasTaken (E.TakeFront worker) self.old self.new }
+        ensures told { EntersEvent (E.TakeFront worker) self.old self.new }
         ensures reply { front_reply result ≡ (outcome self.old.marks (E.TakeFront worker)).reply }
         ensures given { GivesFront self.old result }
     {
@@ -76,14 +76,14 @@ impl Book {
             unreachable!()
         };
         let event = Event::TakeFront { worker };
-        match enter(&mut self.core, &mut self.journal, event) {
-            Reply::Front(rank, seen) => FrontAnswer::Front(Taken {
-                rank,
-                seen,
-                snapshot,
-            }),
-            _ => FrontAnswer::Done,
-        }
+        let Reply::Front(rank, seen) = enter(&mut self.core, &mut self.journal, event) else {
+            return FrontAnswer::Done;
+        };
+        FrontAnswer::Front(Taken {
+            rank,
+            seen,
+            snapshot,
+        })
     }
 
     /// A worker tells that a rank is incoherent together with the first kept ranks, and why.
@@ -92,7 +92,7 @@ impl Book {
         requires fits { IsFitting self.old.marks (E.No worker rank seen) }
         requires good { let ranks = take seen (kept_of self.old.marks) ++ rank ∷ [] in
             IsGoodDerivation self.old.case Part.Both ranks why }
-        ensures told { HasTaken (E.No worker rank seen) self.old self.new }
+        ensures told { EntersEvent (E.No worker rank seen) self.old self.new }
         ensures reply { result ≡ (outcome self.old.marks (E.No worker rank seen)).reply }
     {
         laws(self);
@@ -116,7 +116,7 @@ impl Book {
         requires fits { IsFitting self.old.marks (E.Yes worker rank seen) }
         requires table { let ranks = take seen (kept_of self.old.marks) ++ rank ∷ [] in
             IsTableFor self.old.case ranks table }
-        ensures told { HasTaken (E.Yes worker rank seen) self.old self.new }
+        ensures told { EntersEvent (E.Yes worker rank seen) self.old self.new }
         ensures reply { result ≡ (outcome self.old.marks (E.Yes worker rank seen)).reply }
     {
         laws(self);
@@ -127,13 +127,8 @@ impl Book {
         match reply {
             Reply::Kept => {
                 self.table = table;
-                put(
-                    &self.core,
-                    &mut self.held,
-                    &mut self.table,
-                    rank,
-                    Held::Nothing,
-                );
+                let item = Held::Nothing;
+                put(&self.core, &mut self.held, &mut self.table, rank, item);
             }
             Reply::Noted => {
                 let item = Held::Note(table);
@@ -154,7 +149,7 @@ impl Book {
             IsTableFor self.old.case (kept_of self.old.marks ++ block) table }
         ensures told { let marks = self.old.marks in
             let event = E.Block worker (front_of marks) count (number_kept marks) in
-            HasTaken event self.old self.new }
+            EntersEvent event self.old self.new }
         ensures reply { let marks = self.old.marks in
             let event = E.Block worker (front_of marks) count (number_kept marks) in
             result ≡ (outcome marks event).reply }
