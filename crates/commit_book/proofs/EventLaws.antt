@@ -24,7 +24,7 @@ use Rattle.commit_book.specs.declared.held.Held.TheVariants.{Nothing, Note, Why}
 use Rattle.commit_book.specs.Books.{ranks_of, IsTableFor, entry_of}
 use Rattle.commit_book.specs.Inside.Holdings.{held_at, without_note, IsNoteFor, IsBacked, AreBacked, IsSettled, IsKept}
 use Rattle.commit_book.specs.Inside.Laws.{Laws}
-use Rattle.commit_book.proofs.FrontLaws.{open_from_front, set_ahead, block_ahead}
+use Rattle.commit_book.proofs.FrontLaws.{open_from_front}
 use Rattle.commit_book.proofs.BackLaws.{backed_more, backed_set, why_from_seen}
 
 -- asking leaves the marks
@@ -94,11 +94,6 @@ module _ (case : CaseView) (laws : Laws case) where
         closed = whole.closed;
       }
 
-  pub removed_ahead : (marks : List Mark) (rank : ℕ) → AreKeptBeforeFront marks → rank < length marks → is_decided (mark_at marks rank) ≡ false
-      → AreKeptBeforeFront (with_removed marks rank)
-  removed_ahead marks rank ahead inside undecided =
-      set_ahead laws.kept marks rank Removed ahead (open_from_front marks rank undecided) inside (λ same. absurd (let s : Removed ≡ Kept = same in cc))
-
   -- a yes is noted
   pub noted_settled : (marks : List Mark) (held : List Held) (table noted : TableView) (rank seen : ℕ)
       → IsSettled case marks held table → length held ≡ length marks → rank < length marks
@@ -115,11 +110,6 @@ module _ (case : CaseView) (laws : Laws case) where
         closed = whole.closed;
       }
 
-  pub noted_ahead : (marks : List Mark) (rank seen : ℕ) → AreKeptBeforeFront marks → rank < length marks → is_decided (mark_at marks rank) ≡ false
-      → AreKeptBeforeFront (with_note marks rank seen)
-  noted_ahead marks rank seen ahead inside undecided =
-      set_ahead laws.kept marks rank (Yes seen) ahead (open_from_front marks rank undecided) inside (λ same. absurd (let s : Yes seen ≡ Kept = same in cc))
-
   -- the rank at the front is kept
   pub front_settled : (marks : List Mark) (held : List Held) (table new : TableView)
       → AreKeptBeforeFront marks → IsSettled case marks held table → length held ≡ length marks → front_of marks < length marks
@@ -134,6 +124,3 @@ module _ (case : CaseView) (laws : Laws case) where
         is_for = record { case_is = is_for.case_is; ranks_are = is_for.ranks_are ∙ sym kept };
         closed = closed;
       }
-
-  pub front_ahead : (marks : List Mark) → AreKeptBeforeFront marks → front_of marks < length marks → AreKeptBeforeFront (with_kept marks (front_of marks))
-  front_ahead marks ahead inside = set_ahead laws.kept marks (front_of marks) Kept ahead (omega arith) inside (λ same. refl)

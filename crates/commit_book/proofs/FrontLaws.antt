@@ -6,7 +6,7 @@ use Rattle.std.proofs.lemmas.List.{get_or-set_other, get_or-set_same}
 use Rattle.std.proofs.lemmas.List.Sums.{prefix_len_passes, prefix_len_stops}
 use Rattle.accuse_core.specs.declared.mark.Mark.{Mark}
 use Rattle.accuse_core.specs.declared.mark.Mark.TheVariants.{Open, Yes, Kept, Removed}
-use Rattle.accuse_core.specs.Marks.{is_decided, kept_unless_removed, mark_at, kept_of, front_of, with_block}
+use Rattle.accuse_core.specs.Marks.{is_decided, is_yes_over, kept_unless_removed, mark_at, kept_of, number_kept, front_of, with_kept, with_removed, with_note, with_block, settled}
 use Rattle.accuse_core.specs.Sound.{AreKeptBeforeFront}
 use Rattle.commit_book.specs.Inside.Laws.{KeptLaws, BlockLaws}
 
@@ -59,6 +59,14 @@ decided_one_more marks rank here below other within = ⊎_elim
 decided_fewer : (marks : List Mark) (rank lower : ℕ) → lower ≤ rank → AreDecidedBelow marks rank → AreDecidedBelow marks lower
 decided_fewer marks rank lower fewer below other within = below other (omega arith)
 
+-- a rank that waits is a rank
+pub waiting_inside : (marks : List Mark) (count rank : ℕ) → is_yes_over count (mark_at marks rank) ≡ true → rank < length marks
+waiting_inside marks count rank waits = ⊎_elim
+    (λ (inside : rank < length marks). inside)
+    (λ (past : length marks ≤ rank).
+    let none : is_yes_over count (mark_at marks rank) ≡ false = ap (is_yes_over count) (get_or-eq_default marks Open past) in absurd (cc))
+    (cases_lt rank (length marks))
+
 module _ (laws : KeptLaws) where
   -- kept ranks are before the front, if each kept mark has only decided ones up to it
   ahead_from : (marks : List Mark) → ((rank : ℕ) → mark_at marks rank ≡ Kept → AreDecidedBelow marks (rank + 1)) → AreKeptBeforeFront marks
@@ -84,6 +92,23 @@ module _ (laws : KeptLaws) where
       let before = mark_ahead marks other ahead (sym (get_or-set_other marks rank other mark Open differs) ∙ kept) in
       decided_fewer (set marks rank mark) (front_of marks) (other + 1) (omega arith) (decided_after_set marks rank mark from))
       (cases_eq other rank))
+
+  pub removed_ahead : (marks : List Mark) (rank : ℕ) → AreKeptBeforeFront marks → rank < length marks → is_decided (mark_at marks rank) ≡ false
+      → AreKeptBeforeFront (with_removed marks rank)
+  removed_ahead marks rank ahead inside undecided =
+      set_ahead marks rank Removed ahead (open_from_front marks rank undecided) inside (λ same. absurd (let s : Removed ≡ Kept = same in cc))
+
+  pub noted_ahead : (marks : List Mark) (rank seen : ℕ) → AreKeptBeforeFront marks → rank < length marks → is_decided (mark_at marks rank) ≡ false
+      → AreKeptBeforeFront (with_note marks rank seen)
+  noted_ahead marks rank seen ahead inside undecided =
+      set_ahead marks rank (Yes seen) ahead (open_from_front marks rank undecided) inside (λ same. absurd (let s : Yes seen ≡ Kept = same in cc))
+
+  pub front_ahead : (marks : List Mark) → AreKeptBeforeFront marks → front_of marks < length marks → AreKeptBeforeFront (with_kept marks (front_of marks))
+  front_ahead marks ahead inside = set_ahead marks (front_of marks) Kept ahead (omega arith) inside (λ same. refl)
+
+  pub settled_ahead : (marks : List Mark) → AreKeptBeforeFront marks → is_yes_over (number_kept marks) (mark_at marks (front_of marks)) ≡ true
+      → AreKeptBeforeFront (settled marks)
+  settled_ahead marks ahead waits = rw waits (front_ahead marks ahead (waiting_inside marks (number_kept marks) (front_of marks) waits))
 
   kept_unless_removed_decides : (mark : Mark) → is_decided (kept_unless_removed mark) ≡ true
   kept_unless_removed_decides Open = refl

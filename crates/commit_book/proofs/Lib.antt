@@ -7,3 +7,4 @@ pub mod RankLaws
 pub mod OpeningLaws
 pub mod PutLaws
 pub mod CallLaws
+pub mod GrowthLaws

@@ -1,5 +1,5 @@
 -- The opening: no rank is kept, and nothing is held.
-use Rattle.std.proofs.Common.{◌≡◌, ℕ, zero, suc, List, [], ◌∷◌, length, map, get_or, refl, ap, sym, subst, ◌∙◌}
+use Rattle.std.proofs.Common.{◌≡◌, ℕ, zero, suc, List, [], ◌∷◌, ◌<◌, length, map, get_or, Contains, arith, refl, ap, sym, subst, ◌∙◌}
 use Rattle.std.specs.Prelude.{replicate, Option, None}
 use Rattle.case_file.specs.Cases.{CaseView, IsCase}
 use Rattle.closed_model.specs.ClosedTables.{TableView, IsClosedTable}
@@ -7,6 +7,7 @@ use Rattle.accuse_core.specs.declared.mark.Mark.{Mark}
 use Rattle.accuse_core.specs.declared.mark.Mark.TheVariants.{Open}
 use Rattle.accuse_core.specs.declared.journal.Entry.{Entry}
 use Rattle.accuse_core.specs.Marks.{is_kept, ranks_from, opening, mark_at, kept_of}
+use Rattle.accuse_core.specs.Sound.{AreKeptBeforeFront}
 use Rattle.commit_book.specs.declared.held.Held.{Held}
 use Rattle.commit_book.specs.declared.held.Held.TheVariants.{Nothing}
 use Rattle.commit_book.specs.Books.{ranks_of}
@@ -28,6 +29,12 @@ none_kept rank (suc count) = none_kept (suc rank) count
 
 open_backed : (case : CaseView) (kept : List ℕ) (ranks : ℕ) → AreBacked case kept (opening ranks) (replicate ranks Nothing)
 open_backed case kept ranks rank = rw (same_at ranks rank Open, same_at ranks rank Nothing) tt
+
+-- so none is kept past the front
+pub opening_ahead : (ranks : ℕ) → AreKeptBeforeFront (opening ranks)
+opening_ahead ranks rank there =
+    let found : Contains [] rank = subst (λ (kept : List ℕ). Contains kept rank) (none_kept 0 ranks) there in
+    let within = found.1 in absurd (omega arith)
 
 -- nothing is held, so no rank has a derivation
 pub no_whys : (count : ℕ) → map why_of (replicate count Nothing) ≡ replicate count None

@@ -26,10 +26,10 @@ use Rattle.commit_book.specs.declared.held.Held.TheVariants.{Nothing, Note, Why}
 use Rattle.commit_book.specs.Books.{IsTableFor, entry_of}
 use Rattle.commit_book.specs.Inside.Holdings.{IsNoteFor, IsSettled, IsNearlySettled, IsKept, IsReady}
 use Rattle.commit_book.specs.Inside.Laws.{Laws}
-use Rattle.commit_book.proofs.FrontLaws.{block_ahead}
+use Rattle.commit_book.proofs.FrontLaws.{removed_ahead, noted_ahead, front_ahead, block_ahead}
 use Rattle.commit_book.proofs.BackLaws.{contains_take}
 use Rattle.commit_book.proofs.SettleLaws.{nearly_settled}
-use Rattle.commit_book.proofs.EventLaws.{kept_after, kept_same, removed_settled, removed_ahead, noted_settled, noted_ahead, front_settled, front_ahead}
+use Rattle.commit_book.proofs.EventLaws.{kept_after, kept_same, removed_settled, noted_settled, front_settled}
 use Rattle.commit_book.proofs.TellLaws.{no_marked, yes_kept, yes_noted, HasLostNotes, block_settled}
 
 -- who asks for a rank is told that it is over, or how many are kept
@@ -44,12 +44,6 @@ take_seen marks rank seen reply = ⊎_elim
     (λ (over : is_decided (mark_at marks rank) ≡ true). let is : (on_take marks rank).reply ≡ R.Over = rw over refl in absurd (cc))
     (λ (undecided : is_decided (mark_at marks rank) ≡ false). let is : (on_take marks rank).reply ≡ R.Seen (number_kept marks) = rw undecided refl in cc)
     (cases_Bool (is_decided (mark_at marks rank)))
-
-pub front_seen : (marks : List Mark) (rank seen : ℕ) → (on_take_front marks).reply ≡ R.Front rank seen → seen ≡ number_kept marks
-front_seen marks rank seen reply = ⊎_elim
-    (λ (done : eqb (front_of marks) (length marks) ≡ true). let is : (on_take_front marks).reply ≡ R.Done = rw done refl in absurd (cc))
-    (λ (more : eqb (front_of marks) (length marks) ≡ false). let is : (on_take_front marks).reply ≡ R.Front (front_of marks) (number_kept marks) = rw more refl in cc)
-    (cases_Bool (eqb (front_of marks) (length marks)))
 
 -- the share is a table for the kept ranks that are said to be seen
 pub snapshot_for : (case : CaseView) (kept : List ℕ) (table share : TableView) (room seen : ℕ) (next : Option TableView)
@@ -133,7 +127,7 @@ module _ (case : CaseView) (laws : Laws case) where
       let marked = no_marked marks rank reply in
       near _ later (set held rank (Why steps)) table kept.settled.is_for.case_is (later_is ∙ marked.marks_are)
       (nearly_settled case laws (with_removed marks rank) (set held rank (Why steps)) table
-      (removed_ahead case laws marks rank ahead fits.0 marked.undecided)
+      (removed_ahead laws.kept marks rank ahead fits.0 marked.undecided)
       (removed_settled case laws marks held table rank seen steps ahead kept.settled kept.count fits.0 marked.undecided good))
 
   pub yes_put : (marks later : List Mark) (entries : List Entry) (held : List Held) (table new : TableView) (rank seen : ℕ)
@@ -152,7 +146,7 @@ module _ (case : CaseView) (laws : Laws case) where
       ap (λ n. take n (kept_of marks) ++ rank ∷ []) all ∙ ap (λ (kept : List ℕ). kept ++ rank ∷ []) (take-length (kept_of marks)) ∙ ap (λ r. kept_of marks ++ r ∷ []) front in
       near _ later (set held rank Nothing) new is_for.case_is (later_is ∙ yes.marks_are)
       (nearly_settled case laws (with_kept marks rank) (set held rank Nothing) new
-      (subst (λ r. AreKeptBeforeFront (with_kept marks r)) (sym front) (front_ahead case laws marks ahead inside))
+      (subst (λ r. AreKeptBeforeFront (with_kept marks r)) (sym front) (front_ahead laws.kept marks ahead inside))
       (subst (λ r. IsSettled case (with_kept marks r) (set held r Nothing) new) (sym front)
       (front_settled case laws marks held table new ahead kept.settled kept.count inside
       (record { case_is = is_for.case_is; ranks_are = is_for.ranks_are ∙ ranks }) closed)))
@@ -166,7 +160,7 @@ module _ (case : CaseView) (laws : Laws case) where
       let yes = yes_noted marks rank seen reply in
       near _ later (set held rank (Note noted)) table kept.settled.is_for.case_is (later_is ∙ yes.marks_are)
       (nearly_settled case laws (with_note marks rank seen) (set held rank (Note noted)) table
-      (noted_ahead case laws marks rank seen ahead fits.0 yes.undecided)
+      (noted_ahead laws.kept marks rank seen ahead fits.0 yes.undecided)
       (noted_settled case laws marks held table noted rank seen kept.settled kept.count fits.0 yes.undecided
       (record { few = fits.1; is_for = is_for; closed = closed })))
 

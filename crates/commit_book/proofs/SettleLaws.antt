@@ -14,15 +14,8 @@ use Rattle.commit_book.specs.declared.held.Held.TheVariants.{Nothing, Note}
 use Rattle.commit_book.specs.Books.{IsTableFor}
 use Rattle.commit_book.specs.Inside.Holdings.{held_at, IsBacked, IsSettled, IsLastHeld, IsNearlySettled}
 use Rattle.commit_book.specs.Inside.Laws.{Laws}
+use Rattle.commit_book.proofs.FrontLaws.{waiting_inside}
 use Rattle.commit_book.proofs.BackLaws.{backed_more, IsNoteOfAll, waiting_note}
-
--- a rank that waits is a rank
-waiting_inside : (marks : List Mark) (count rank : ℕ) → is_yes_over count (mark_at marks rank) ≡ true → rank < length marks
-waiting_inside marks count rank waits = ⊎_elim
-    (λ (inside : rank < length marks). inside)
-    (λ (past : length marks ≤ rank).
-    let none : is_yes_over count (mark_at marks rank) ≡ false = ap (is_yes_over count) (get_or-eq_default marks Open past) in absurd (cc))
-    (cases_lt rank (length marks))
 
 -- what holds a table is held for a rank
 note_inside : (held : List Held) (rank : ℕ) (table : TableView) → held_at held rank ≡ Note table → rank < length held

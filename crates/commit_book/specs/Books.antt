@@ -15,8 +15,8 @@ use Rattle.accuse_core.specs.Marks.{opening, mark_at, kept_of}
 use Rattle.accuse_core.specs.Events.{outcome}
 use Rattle.accuse_core.specs.Journal.{replayed, IsJournal}
 
--- a case, the marks of the core, the journal, the table of the kept ranks, for each removed rank why
--- it is, and whether the next call has its room and its table (1) or not (0)
+-- a case, the marks of the core, the journal, the table of the kept ranks, for each removed rank
+-- why it is, and whether the next call has its room and its table (1) or not (0)
 pub record BookView : Type 0 where
   pub case : CaseView
   pub marks : List Mark
@@ -51,9 +51,9 @@ pub record IsTableFor (case : CaseView) (ranks : List ℕ) (table : TableView) :
   pub case_is : table.case ≡ case
   pub ranks_are : table.ranks ≡ ranks
 
--- each entry was allowed and has the core's reply; the marks are those that the journal leads to, one
--- for each rank of the case; each removed rank has its derivation; the table is closed, for the kept
--- ranks
+-- each entry was allowed and has the core's reply; the marks are those that the journal leads to,
+-- one for each rank of the case; each removed rank has its derivation; the table is closed, for
+-- the kept ranks
 pub record IsBook (book : BookView) : Type 0 where
   pub case_is : IsCase book.case
   pub journal : IsJournal (IsIncoherentFor book.case Part.Both) (ranks_of book.case) book.entries

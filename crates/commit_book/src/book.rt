@@ -19,8 +19,8 @@ use std::marker::Model;
 use std::sync::Arc;
 
 /// A case, the core over its ranks, the journal of all that was told, and what each decision rests
-/// on: the closed table of the kept ranks, one for each rank that waits with a yes, and a derivation
-/// for each removed rank.
+/// on: the closed table of the kept ranks, one for each rank that waits with a yes, and a
+/// derivation for each removed rank.
 #[derive(Drop)]
 pub struct Book {
     pub(crate) case: Arc<Case>,
@@ -126,8 +126,8 @@ impl Book {
         &self.core
     }
 
-    /// All that was told, with the replies. What a book keeps is known from its type; this call says
-    /// so.
+    /// All that was told, with the replies. What a book keeps is known from its type; this call
+    /// says so.
     pub fn journal(&self) -> &Entries
         ensures entries { result.now.entries ≡ self.now.entries }
         ensures book { IsBook self.now }

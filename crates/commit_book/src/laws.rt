@@ -1,11 +1,14 @@
 //! What the crates below say of a book.
 
-ghost use Rattle.std.specs.Prelude.{[]};
+ghost use Rattle.std.specs.Prelude.{◌≡◌, ◌≤◌, ◌++◌, ℕ, List, [], take};
 ghost use Rattle.conflict_logic.specs.Sets.{IsClosedUnderAdding};
 ghost use Rattle.el_logic.specs.declared.types.Part.{Part};
 ghost use Rattle.case_file.specs.Incoherence.{IsIncoherentFor};
+ghost use Rattle.accuse_core.specs.declared.journal.Entry.{Entry};
+ghost use Rattle.accuse_core.specs.Journal.{replayed};
+ghost use Rattle.accuse_core.specs.Marks.{kept_of, number_kept};
 ghost use Rattle.accuse_core.specs.Sound.{AreKeptBeforeFront, AreSound};
-ghost use Rattle.commit_book.specs.Books.{IsBook};
+ghost use Rattle.commit_book.specs.Books.{IsBook, ranks_of};
 ghost use Rattle.commit_book.specs.Inside.Laws.{KeptLaws, BlockLaws, JournalLaws, VerdictLaws, Laws};
 
 use crate::book::Book;
@@ -76,4 +79,17 @@ pub fn laws(book: &Book)
     journal_laws(book);
     verdict_laws(book);
     books_are_sound(book);
+}
+
+/// What a book kept after a beginning of its journal stays first among what it keeps. So whoever
+/// was given a snapshot may tell what it found to the same book later.
+pub fn kept_ranks_stay_first(book: &Book)
+    ensures { (earlier more : List Entry) (seen : ℕ) → book.now.entries ≡ earlier ++ more
+        → let then = replayed (ranks_of book.now.case) earlier in seen ≤ number_kept then
+        → (seen ≤ number_kept book.now.marks)
+        × (take seen (kept_of book.now.marks) ≡ take seen (kept_of then)) }
+{
+    let _ = book.journal();
+    kept_laws();
+    block_laws();
 }

@@ -10,4 +10,4 @@ mod telling;
 
 pub use answers::{FrontAnswer, TakeAnswer, Taken};
 pub use book::Book;
-pub use laws::books_are_sound;
+pub use laws::{books_are_sound, kept_ranks_stay_first};

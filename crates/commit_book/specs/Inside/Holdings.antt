@@ -31,7 +31,8 @@ abbrev pub held_at : List Held → ℕ → Held
 held_at held rank = slice_index_or held rank Nothing
 
 -- a table for the first kept ranks that were seen, followed by the rank
-pub record IsNoteFor (case : CaseView) (kept : List ℕ) (seen rank : ℕ) (table : TableView) : Type 0 where
+pub record IsNoteFor (case : CaseView) (kept : List ℕ) (seen rank : ℕ) (table : TableView)
+    : Type 0 where
   pub few : seen ≤ length kept
   pub is_for : IsTableFor case (take seen kept ++ rank ∷ []) table
   pub closed : IsClosedTable table
@@ -54,13 +55,15 @@ AreBacked case kept marks held =
     (rank : ℕ) → IsBacked case kept rank (mark_at marks rank) (held_at held rank)
 
 -- the table is the one of all kept ranks, and each mark is backed
-pub record IsSettled (case : CaseView) (marks : List Mark) (held : List Held) (table : TableView) : Type 0 where
+pub record IsSettled (case : CaseView) (marks : List Mark) (held : List Held) (table : TableView)
+    : Type 0 where
   pub backed : AreBacked case (kept_of marks) marks held
   pub is_for : IsTableFor case (kept_of marks) table
   pub closed : IsClosedTable table
 
 -- the last of the kept ranks was kept just now, and its table is still held for it
-pub record IsLastHeld (case : CaseView) (marks : List Mark) (held : List Held) (table : TableView) (last : ℕ) : Type 0 where
+pub record IsLastHeld (case : CaseView) (marks : List Mark) (held : List Held)
+    (table : TableView) (last : ℕ) : Type 0 where
   pub kept : kept_of marks ≡ table.ranks ++ last ∷ []
   pub inside : last < length held
   pub its_mark : mark_at marks last ≡ Kept
@@ -77,7 +80,8 @@ IsNearlySettled case marks held table =
     IsSettled case marks held table ⊎ ((last : ℕ) × IsLastHeld case marks held table last)
 
 -- what the type keeps
-pub record IsKept (case : CaseView) (marks : List Mark) (entries : List Entry) (held : List Held) (table : TableView) : Type 0 where
+pub record IsKept (case : CaseView) (marks : List Mark) (entries : List Entry)
+    (held : List Held) (table : TableView) : Type 0 where
   pub case_is : IsCase case
   pub journal : IsJournal (IsIncoherentFor case Part.Both) (ranks_of case) entries
   pub core : marks ≡ replayed (ranks_of case) entries
