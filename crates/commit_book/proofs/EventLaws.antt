@@ -1,7 +1,7 @@
 -- What each event leaves, before the front is taken anew, and how the journal grows by it.
-use Rattle.std.proofs.Common.{◌≡◌, ℕ, ◌+◌, ◌<◌, ◌≤◌, true, false, ⊎_elim, List, [], ◌∷◌, ◌++◌, length, set, take, Contains, eqb, ltb, leb, refl, sym, subst, ap, ◌∙◌, arith}
-use Rattle.std.proofs.lemmas.Bool.{cases_Bool, cases_lt, eqb-true, ltb-false}
-use Rattle.std.proofs.lemmas.List.{length-append, append-nil}
+use Rattle.std.proofs.Common.{◌≡◌, ℕ, ◌<◌, true, false, ⊎_elim, List, [], ◌∷◌, ◌++◌, length, set, take, Contains, eqb, refl, sym, subst, ap, ◌∙◌, arith}
+use Rattle.std.proofs.lemmas.Bool.{cases_Bool}
+use Rattle.std.proofs.lemmas.List.{append-nil}
 use Rattle.el_logic.specs.declared.types.Part.{Part}
 use Rattle.case_file.specs.Cases.{CaseView}
 use Rattle.case_file.specs.Incoherence.{IsIncoherentFor}
@@ -9,20 +9,17 @@ use Rattle.closed_model.specs.ClosedTables.{TableView, IsClosedTable}
 use Rattle.derivation.specs.declared.types.Step.{Step}
 use Rattle.derivation.specs.Steps.{IsGoodDerivation}
 use Rattle.accuse_core.specs.declared.mark.Mark.{Mark}
-use Rattle.accuse_core.specs.declared.mark.Mark.TheVariants.{Open, Yes, Kept, Removed}
+use Rattle.accuse_core.specs.declared.mark.Mark.TheVariants.{Yes, Kept, Removed}
 use Rattle.accuse_core.specs.declared.event.Event.{Event}
-use Rattle.accuse_core.specs.declared.event.Event.TheVariants as E
-use Rattle.accuse_core.specs.declared.event.Reply.{Reply}
-use Rattle.accuse_core.specs.declared.event.Reply.TheVariants as R
 use Rattle.accuse_core.specs.declared.journal.Entry.{Entry}
-use Rattle.accuse_core.specs.Marks.{is_decided, kept_unless_removed, with_kept, with_removed, with_note, with_block, block_of, mark_at, kept_of, number_kept, front_of}
-use Rattle.accuse_core.specs.Events.{outcome, on_take, on_take_front, on_no, on_yes, IsFitting, IsAllowed}
-use Rattle.accuse_core.specs.Journal.{replayed, IsJournal}
+use Rattle.accuse_core.specs.Marks.{is_decided, with_kept, with_removed, with_note, mark_at, kept_of, front_of}
+use Rattle.accuse_core.specs.Events.{outcome, on_take, on_take_front, IsAllowed}
+use Rattle.accuse_core.specs.Journal.{replayed}
 use Rattle.accuse_core.specs.Sound.{AreKeptBeforeFront}
 use Rattle.commit_book.specs.declared.held.Held.{Held}
 use Rattle.commit_book.specs.declared.held.Held.TheVariants.{Nothing, Note, Why}
 use Rattle.commit_book.specs.Books.{ranks_of, IsTableFor, entry_of}
-use Rattle.commit_book.specs.Inside.Holdings.{held_at, without_note, IsNoteFor, IsBacked, AreBacked, IsSettled, IsKept}
+use Rattle.commit_book.specs.Inside.Holdings.{IsNoteFor, AreBacked, IsSettled, IsKept}
 use Rattle.commit_book.specs.Inside.Laws.{Laws}
 use Rattle.commit_book.proofs.FrontLaws.{open_from_front}
 use Rattle.commit_book.proofs.BackLaws.{backed_more, backed_set, why_from_seen}

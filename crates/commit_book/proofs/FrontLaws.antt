@@ -1,12 +1,12 @@
 -- The front, and kept ranks before it, after marks were put in place of others.
-use Rattle.std.proofs.Common.{◌≡◌, ℕ, ◌+◌, ◌<◌, ◌≤◌, true, false, ⊎_elim, List, length, set, Contains, refl, sym, subst, ap, ◌∙◌, arith}
+use Rattle.std.proofs.Common.{◌≡◌, ℕ, ◌+◌, ◌<◌, ◌≤◌, true, false, ⊎_elim, List, length, set, refl, sym, subst, ap, ◌∙◌, arith}
 use Rattle.std.proofs.Math.ListN.{get_or-eq_default}
 use Rattle.std.proofs.lemmas.Bool.{cases_lt, cases_eq}
 use Rattle.std.proofs.lemmas.List.{get_or-set_other, get_or-set_same}
 use Rattle.std.proofs.lemmas.List.Sums.{prefix_len_passes, prefix_len_stops}
 use Rattle.accuse_core.specs.declared.mark.Mark.{Mark}
 use Rattle.accuse_core.specs.declared.mark.Mark.TheVariants.{Open, Yes, Kept, Removed}
-use Rattle.accuse_core.specs.Marks.{is_decided, is_yes_over, kept_unless_removed, mark_at, kept_of, number_kept, front_of, with_kept, with_removed, with_note, with_block, settled}
+use Rattle.accuse_core.specs.Marks.{is_decided, is_yes_over, kept_unless_removed, mark_at, number_kept, front_of, with_kept, with_removed, with_note, with_block, settled}
 use Rattle.accuse_core.specs.Sound.{AreKeptBeforeFront}
 use Rattle.commit_book.specs.Inside.Laws.{KeptLaws, BlockLaws}
 

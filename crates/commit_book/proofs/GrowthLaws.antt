@@ -1,6 +1,6 @@
 -- What events add to the kept ranks: a longer journal keeps what a shorter one keeps, in the same
 -- places.
-use Rattle.std.proofs.Common.{◌≡◌, ℕ, ◌+◌, ◌<◌, ◌≤◌, true, false, ⊎_elim, List, [], ◌∷◌, ◌++◌, length, set, take, append_assoc, refl, sym, subst, ap, ◌∙◌, arith}
+use Rattle.std.proofs.Common.{◌≡◌, ℕ, ◌+◌, ◌<◌, ◌≤◌, true, false, ⊎_elim, List, [], ◌∷◌, ◌++◌, length, take, append_assoc, refl, sym, subst, ap, ◌∙◌, arith}
 use Rattle.std.proofs.lemmas.Bool.{cases_Bool}
 use Rattle.std.proofs.lemmas.List.{length-append, append-nil, take-append-le}
 use Rattle.accuse_core.specs.declared.mark.Mark.{Mark}
@@ -8,7 +8,7 @@ use Rattle.accuse_core.specs.declared.event.Event.{Event}
 use Rattle.accuse_core.specs.declared.event.Event.TheVariants as E
 use Rattle.accuse_core.specs.declared.journal.Entry.{Entry}
 use Rattle.accuse_core.specs.Marks.{is_decided, is_yes_over, with_kept, with_removed, with_note, with_block, block_of, settled, mark_at, kept_of, number_kept, front_of}
-use Rattle.accuse_core.specs.Events.{outcome, on_no, on_yes, IsFitting, IsFittingVerdict}
+use Rattle.accuse_core.specs.Events.{outcome, on_no, on_yes, IsFitting}
 use Rattle.accuse_core.specs.Journal.{after, AreAllowed, events_of}
 use Rattle.accuse_core.specs.Sound.{AreKeptBeforeFront}
 use Rattle.commit_book.specs.Inside.Laws.{KeptLaws, BlockLaws}

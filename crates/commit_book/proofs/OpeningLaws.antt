@@ -1,17 +1,17 @@
 -- The opening: no rank is kept, and nothing is held.
-use Rattle.std.proofs.Common.{◌≡◌, ℕ, zero, suc, List, [], ◌∷◌, ◌<◌, length, map, get_or, Contains, arith, refl, ap, sym, subst, ◌∙◌}
-use Rattle.std.specs.Prelude.{replicate, Option, None}
+use Rattle.std.proofs.Common.{◌≡◌, ℕ, zero, suc, List, [], ◌∷◌, length, map, get_or, Contains, arith, refl, ap, sym, subst, ◌∙◌}
+use Rattle.std.specs.Prelude.{replicate, None}
 use Rattle.case_file.specs.Cases.{CaseView, IsCase}
 use Rattle.closed_model.specs.ClosedTables.{TableView, IsClosedTable}
 use Rattle.accuse_core.specs.declared.mark.Mark.{Mark}
 use Rattle.accuse_core.specs.declared.mark.Mark.TheVariants.{Open}
 use Rattle.accuse_core.specs.declared.journal.Entry.{Entry}
-use Rattle.accuse_core.specs.Marks.{is_kept, ranks_from, opening, mark_at, kept_of}
+use Rattle.accuse_core.specs.Marks.{is_kept, ranks_from, opening, kept_of}
 use Rattle.accuse_core.specs.Sound.{AreKeptBeforeFront}
 use Rattle.commit_book.specs.declared.held.Held.{Held}
 use Rattle.commit_book.specs.declared.held.Held.TheVariants.{Nothing}
 use Rattle.commit_book.specs.Books.{ranks_of}
-use Rattle.commit_book.specs.Inside.Holdings.{why_of, held_at, IsBacked, AreBacked, IsKept}
+use Rattle.commit_book.specs.Inside.Holdings.{why_of, AreBacked, IsKept}
 
 length-replicate : {X : Type 0} (n : ℕ) (x : X) → length (replicate n x) ≡ n
 length-replicate zero x = refl

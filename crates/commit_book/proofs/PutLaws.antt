@@ -1,6 +1,6 @@
 -- Each call: its event is allowed, what it puts leaves the marks backed, and the book keeps what it
 -- keeps.
-use Rattle.std.proofs.Common.{◌≡◌, ℕ, ◌+◌, ◌<◌, ◌≤◌, true, false, ⊎_elim, List, [], ◌∷◌, ◌++◌, length, set, take, Contains, eqb, refl, sym, subst, ap, ◌∙◌, arith}
+use Rattle.std.proofs.Common.{◌≡◌, ℕ, ◌+◌, ◌<◌, ◌≤◌, true, false, ⊎_elim, List, [], ◌∷◌, ◌++◌, length, set, take, Contains, refl, sym, subst, ap, ◌∙◌, arith}
 use Rattle.std.specs.Prelude.{Option, Some}
 use Rattle.std.proofs.Math.Seq.{take-length}
 use Rattle.std.proofs.lemmas.Bool.{cases_Bool}
@@ -13,18 +13,17 @@ use Rattle.closed_model.specs.ClosedTables.{TableView, IsClosedTable}
 use Rattle.derivation.specs.declared.types.Step.{Step}
 use Rattle.derivation.specs.Steps.{IsGoodDerivation}
 use Rattle.accuse_core.specs.declared.mark.Mark.{Mark}
-use Rattle.accuse_core.specs.declared.mark.Mark.TheVariants.{Open, Yes, Kept, Removed}
 use Rattle.accuse_core.specs.declared.event.Event.{Event}
 use Rattle.accuse_core.specs.declared.event.Event.TheVariants as E
 use Rattle.accuse_core.specs.declared.event.Reply.TheVariants as R
 use Rattle.accuse_core.specs.declared.journal.Entry.{Entry}
 use Rattle.accuse_core.specs.Marks.{is_decided, with_kept, with_removed, with_note, with_block, block_of, mark_at, kept_of, number_kept, front_of}
-use Rattle.accuse_core.specs.Events.{outcome, on_take, on_take_front, on_no, on_yes, on_block, IsFittingVerdict, IsFittingBlock, IsAllowed}
+use Rattle.accuse_core.specs.Events.{outcome, on_take, on_no, on_yes, on_block, IsFittingVerdict, IsAllowed}
 use Rattle.accuse_core.specs.Sound.{AreKeptBeforeFront}
 use Rattle.commit_book.specs.declared.held.Held.{Held}
 use Rattle.commit_book.specs.declared.held.Held.TheVariants.{Nothing, Note, Why}
 use Rattle.commit_book.specs.Books.{IsTableFor, entry_of}
-use Rattle.commit_book.specs.Inside.Holdings.{IsNoteFor, IsSettled, IsNearlySettled, IsKept, IsReady}
+use Rattle.commit_book.specs.Inside.Holdings.{IsSettled, IsNearlySettled, IsKept, IsReady}
 use Rattle.commit_book.specs.Inside.Laws.{Laws}
 use Rattle.commit_book.proofs.FrontLaws.{removed_ahead, noted_ahead, front_ahead, block_ahead}
 use Rattle.commit_book.proofs.BackLaws.{contains_take}

@@ -1,5 +1,5 @@
 -- When the front is taken anew: a rank that waits there is kept, and its table is held for it.
-use Rattle.std.proofs.Common.{◌≡◌, ℕ, ◌<◌, ◌≤◌, true, false, ⊎_elim, inl, inr, List, [], ◌∷◌, ◌++◌, length, set, refl, sym, subst, ap, ◌∙◌, arith}
+use Rattle.std.proofs.Common.{◌≡◌, ℕ, ◌<◌, ◌≤◌, true, false, ⊎_elim, inl, inr, List, [], ◌∷◌, ◌++◌, length, sym, ap, ◌∙◌}
 use Rattle.std.proofs.Math.ListN.{get_or-eq_default}
 use Rattle.std.proofs.lemmas.Bool.{cases_lt, cases_Bool}
 use Rattle.std.proofs.lemmas.List.{get_or-set_other, get_or-set_same}
@@ -11,8 +11,7 @@ use Rattle.accuse_core.specs.Marks.{is_yes_over, with_kept, settled, mark_at, ke
 use Rattle.accuse_core.specs.Sound.{AreKeptBeforeFront}
 use Rattle.commit_book.specs.declared.held.Held.{Held}
 use Rattle.commit_book.specs.declared.held.Held.TheVariants.{Nothing, Note}
-use Rattle.commit_book.specs.Books.{IsTableFor}
-use Rattle.commit_book.specs.Inside.Holdings.{held_at, IsBacked, IsSettled, IsLastHeld, IsNearlySettled}
+use Rattle.commit_book.specs.Inside.Holdings.{held_at, IsSettled, IsLastHeld, IsNearlySettled}
 use Rattle.commit_book.specs.Inside.Laws.{Laws}
 use Rattle.commit_book.proofs.FrontLaws.{waiting_inside}
 use Rattle.commit_book.proofs.BackLaws.{backed_more, IsNoteOfAll, waiting_note}

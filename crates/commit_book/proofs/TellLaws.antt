@@ -1,5 +1,5 @@
 -- What a reply says of the marks, and what a block leaves.
-use Rattle.std.proofs.Common.{◌≡◌, ℕ, ◌+◌, ◌<◌, ◌≤◌, true, false, ⊎_elim, inl, inr, ◌⊎◌, List, [], ◌∷◌, ◌++◌, length, set, eqb, ltb, leb, refl, sym, subst, ap, ◌∙◌, arith}
+use Rattle.std.proofs.Common.{◌≡◌, ℕ, ◌+◌, ◌<◌, ◌≤◌, true, false, ⊎_elim, inl, inr, ◌⊎◌, List, ◌++◌, length, eqb, ltb, leb, refl, sym, ◌∙◌, arith}
 use Rattle.std.proofs.lemmas.Bool.{cases_Bool, cases_lt, eqb-true, ltb-false}
 use Rattle.case_file.specs.Cases.{CaseView}
 use Rattle.closed_model.specs.ClosedTables.{TableView, IsClosedTable}

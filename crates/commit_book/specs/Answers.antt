@@ -1,5 +1,5 @@
 -- What a worker is given to test.
-use Rattle.std.specs.Prelude.{◌≡◌, ℕ, List, take, ⊤}
+use Rattle.std.specs.Prelude.{◌≡◌, ℕ, take, ⊤}
 use Rattle.commit_book.specs.declared.answers.Taken.{Taken}
 use Rattle.commit_book.specs.declared.answers.TakeAnswer.{TakeAnswer}
 use Rattle.commit_book.specs.declared.answers.TakeAnswer.TheVariants as T

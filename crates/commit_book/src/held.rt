@@ -74,7 +74,8 @@ fn drop_note(held: &mut Vec<Held>, rank: usize)
     }
 }
 
-/// The front may have come to a rank that waited: its table is then the one of all kept ranks.
+/// After an event: the core may have kept a rank that waited at the front. The table that is held
+/// for it is then the one of all kept ranks.
 pub fn settle(core: &Core, held: &mut Vec<Held>, table: &mut ClosedTable)
     requires { IsNearlySettled table.old.case core.now held.old.items table.old }
     ensures settled { IsSettled table.old.case core.now held.new.items table.new }
@@ -91,7 +92,7 @@ pub fn settle(core: &Core, held: &mut Vec<Held>, table: &mut ClosedTable)
     }
 }
 
-/// Puts what is held for a rank, before the front is taken anew.
+/// After an event: puts what is held for the rank that it changed, and then settles.
 pub fn put(core: &Core, held: &mut Vec<Held>, table: &mut ClosedTable, rank: u32, item: Held)
     requires inside { rank < length held.old.items }
     requires put { let later = slice_set held.old.items rank item in

@@ -120,6 +120,7 @@ impl Book {
         ensures reply { result ≡ (outcome self.old.marks (E.Yes worker rank seen)).reply }
     {
         laws(self);
+        // that the table is closed is known from its type
         let _ = table.case();
         self.next = None;
         let event = Event::Yes { worker, rank, seen };

@@ -1,5 +1,5 @@
 -- What the book holds for each rank.
-use Rattle.std.specs.Prelude.{◌≡◌, ℕ, ◌≤◌, ◌<◌, ◌+◌, List, [], ◌∷◌, ◌++◌, take, map, length, slice_index_or, Option, None, Some, IfSome, ⊤, ◌⊎◌}
+use Rattle.std.specs.Prelude.{◌≡◌, ℕ, ◌≤◌, ◌<◌, List, [], ◌∷◌, ◌++◌, take, length, slice_index_or, Option, None, Some, IfSome, ⊤, ◌⊎◌}
 use Rattle.el_logic.specs.declared.types.Part.{Part}
 use Rattle.case_file.specs.Cases.{CaseView, IsCase}
 use Rattle.case_file.specs.Incoherence.{IsIncoherentFor}

@@ -1,4 +1,4 @@
-use Rattle.std.proofs.Common.{◌≡◌, ℕ, ◌≤◌, List, take, sym, subst, ap, ◌∙◌}
+use Rattle.std.proofs.Common.{◌≡◌, ◌≤◌, List, take, sym, subst, ap, ◌∙◌}
 use Rattle.el_logic.specs.declared.types.Part.{Part}
 use Rattle.case_file.specs.Incoherence.{IsIncoherentFor}
 use Rattle.accuse_core.specs.declared.mark.Mark.{Mark}

@@ -1,6 +1,6 @@
-use Rattle.std.proofs.Common.{◌≡◌, ℕ, List, map, ap, sym, subst, refl, ◌∙◌}
+use Rattle.std.proofs.Common.{◌≡◌, map, ap, sym, subst, ◌∙◌}
 use Rattle.std.specs.Prelude.{replicate}
-use Rattle.case_file.specs.Cases.{CaseView, IsCase}
+use Rattle.case_file.specs.Cases.{IsCase}
 use Rattle.accuse_core.specs.Marks.{opening}
 use Rattle.commit_book.specs.declared.held.Held.TheVariants.{Nothing}
 use Rattle.commit_book.specs.Books.{ranks_of}

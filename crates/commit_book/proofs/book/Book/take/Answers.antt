@@ -1,4 +1,4 @@
-use Rattle.std.proofs.Common.{◌≡◌, ◌∷◌, ◌++◌, [], refl, sym, subst, ap, take, ◌∙◌}
+use Rattle.std.proofs.Common.{◌∷◌, ◌++◌, [], refl, sym, subst, ap, take, ◌∙◌}
 use Rattle.accuse_core.specs.declared.event.Event.TheVariants as E
 use Rattle.accuse_core.specs.Marks.{kept_of}
 use Rattle.accuse_core.specs.Events.{on_take}
