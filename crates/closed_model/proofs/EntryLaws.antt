@@ -1,6 +1,6 @@
 -- What the entries that facts say have to do with the reading that they say.
 use Rattle.std.proofs.Common.{◌≡◌, ◌∙◌, ℕ, zero, suc, ◌+◌, ◌-◌, ◌<◌, ◌&&◌, Bool, true, false, List, [], ◌∷◌, length, All, Contains, Option, Some, None, slice_get, refl, sym, ap, subst, ⊎_elim, arith, rules}
-use Rattle.std.specs.Prelude.{if◌then◌else◌, nat_lt, ◌==◌, ◌↔◌, slice_index_or}
+use Rattle.std.specs.Prelude.{if◌then◌else◌, nat_lt, ◌==◌, ◌↔◌, IsTrue, slice_index_or}
 use Rattle.std.specs.List.{filter_map, cons_option}
 use Rattle.std.proofs.lemmas.Bool.{cases_Bool, and_parts, and_from, eqb-true, eq-eqb, lt-ltb, le-ltb, ltb-true, ltb-false}
 use Rattle.std.proofs.lemmas.Map.Views.{Contains-from_any}
@@ -15,41 +15,14 @@ use Rattle.closed_model.specs.Inside.Elements.{AreNumbered}
 use Rattle.closed_model.specs.Inside.Entries.{element_at, class_of, joined, member_said, pair_said}
 use Rattle.closed_model.proofs.ListLaws.{all_if_each}
 
--- facts that pass as the same are one
-same_is : (one other : Fact) → same_fact one other ≡ true → one ≡ other
-same_is (Sub a b) (Sub c d) passed =
-    let parts = and_parts (a == c) (b == d) passed in
-    ap (λ n. Sub n b) (eqb-true a c parts.0) ∙ ap (λ n. Sub c n) (eqb-true b d parts.1)
-same_is (Link a r b) (Link c s d) passed =
-    let parts = and_parts ((a == c) && (r == s)) (b == d) passed in
-    let two = and_parts (a == c) (r == s) parts.0 in
-    ap (λ n. Link n r b) (eqb-true a c two.0) ∙ ap (λ n. Link c n b) (eqb-true r s two.1) ∙ ap (λ n. Link c s n) (eqb-true b d parts.1)
-same_is (Sub a b) (Link c s d) passed = absurd (search rules)
-same_is (Link a r b) (Sub c d) passed = absurd (search rules)
-
--- and a fact is the same as itself
-is_same : (fact : Fact) → same_fact fact fact ≡ true
-is_same (Sub a b) = and_from (a == a) (b == b) (eq-eqb a a refl) (eq-eqb b b refl)
-is_same (Link a r b) = and_from ((a == a) && (r == r)) (b == b) (and_from (a == a) (r == r) (eq-eqb a a refl) (eq-eqb r r refl)) (eq-eqb b b refl)
-
--- a fact that is found is one of them
-pub found : (facts : List Fact) (fact : Fact) → has_fact facts fact ≡ true → Contains facts fact
-found facts fact has = Contains-from_any same_is fact facts has
-
--- and one of them is found
-pub finds : (facts : List Fact) (fact : Fact) → Contains facts fact → has_fact facts fact ≡ true
-finds [] fact (k, within, same) = absurd (omega arith)
-finds (one ∷ facts) fact (zero, within, same) =
-    let first : same_fact fact one ≡ true = subst (λ f. same_fact fact f ≡ true) (sym same) (is_same fact) in
-    rw first refl
-finds (one ∷ facts) fact (suc k, within, same) =
-    let later : has_fact facts fact ≡ true = finds facts fact (k, omega (arith, within), same) in
-    rw later (or-true (same_fact fact one))
+-- the test that finds a fact in these finds just what is there
+abbrev pub Tells : List Fact → Type 0
+Tells facts = (fact : Fact) → IsTrue (has_fact facts fact) ↔ Contains facts fact
 
 -- a fact at no place is not found
-pub not_found : (facts : List Fact) (fact : Fact) → IsAbsent facts fact → has_fact facts fact ≡ false
-not_found facts fact absent = ⊎_elim
-    (λ has. let there = found facts fact has in absurd (absent there.0 (slice_get-get_or facts there.0 fact there.1 ∙ ap Some there.2)))
+pub not_found : (facts : List Fact) (fact : Fact) → Tells facts → IsAbsent facts fact → has_fact facts fact ≡ false
+not_found facts fact tells absent = ⊎_elim
+    (λ has. let there = (tells fact).0 has in absurd (absent there.0 (slice_get-get_or facts there.0 fact there.1 ∙ ap Some there.2)))
     (λ hasnt. hasnt)
     (cases_Bool (has_fact facts fact))
 
@@ -120,19 +93,19 @@ pub passed_value : {X : Type 0} (b : Bool) (r k : X) → (if b then Some r else 
 passed_value true r k is = (refl, same_Some r k is)
 passed_value false r k is = absurd (none-some k is)
 
-module _ (facts : List Fact) (live : List ℕ) where
+module _ (facts : List Fact) (live : List ℕ) (tells : Tells facts) where
   -- an element is in a node if its own node is put within it
   in_node : (n x : ℕ) → IsIn (said_at facts live) n x → (node : ℕ) × (slice_get live x ≡ Some node) × Contains facts (Sub node n)
   in_node n x is =
       let parts = and_parts (nat_lt x (length live)) (has_fact facts (Sub (slice_index_or live x 0) n)) is in
-      (slice_index_or live x 0, slice_get-get_or live x 0 (ltb-true x (length live) parts.0), found facts (Sub (slice_index_or live x 0) n) parts.1)
+      (slice_index_or live x 0, slice_get-get_or live x 0 (ltb-true x (length live) parts.0), (tells (Sub (slice_index_or live x 0) n)).0 parts.1)
 
   node_in : (n x node : ℕ) → slice_get live x ≡ Some node → Contains facts (Sub node n) → IsIn (said_at facts live) n x
   node_in n x node at there =
       let same : slice_index_or live x 0 ≡ node = get_or_from_slice_get live x node 0 at in
       and_from (nat_lt x (length live)) (has_fact facts (Sub (slice_index_or live x 0) n))
       (lt-ltb x (length live) (slice_get_within live x node at))
-      (subst (λ a. has_fact facts (Sub a n) ≡ true) (sym same) (finds facts (Sub node n) there))
+      (subst (λ a. has_fact facts (Sub a n) ≡ true) (sym same) ((tells (Sub node n)).1 there))
 
   -- and two are linked if their nodes are
   by_link : (r x y : ℕ) → AreLinked (said_at facts live) r x y → (a b : ℕ) × (slice_get live x ≡ Some a) × (slice_get live y ≡ Some b) × Contains facts (Link a r b)
@@ -143,7 +116,7 @@ module _ (facts : List Fact) (live : List ℕ) where
         slice_index_or live y 0,
         slice_get-get_or live x 0 (ltb-true x (length live) ends.0),
         slice_get-get_or live y 0 (ltb-true y (length live) ends.1),
-        found facts (Link (slice_index_or live x 0) r (slice_index_or live y 0)) parts.1,
+        (tells (Link (slice_index_or live x 0) r (slice_index_or live y 0))).0 parts.1,
       )
 
   link_by : (r x y a b : ℕ) → slice_get live x ≡ Some a → slice_get live y ≡ Some b → Contains facts (Link a r b) → AreLinked (said_at facts live) r x y
@@ -153,7 +126,7 @@ module _ (facts : List Fact) (live : List ℕ) where
       and_from (nat_lt x (length live) && nat_lt y (length live)) (has_fact facts (Link (slice_index_or live x 0) r (slice_index_or live y 0)))
       (and_from (nat_lt x (length live)) (nat_lt y (length live)) (lt-ltb x (length live) (slice_get_within live x a from)) (lt-ltb y (length live) (slice_get_within live y b to)))
       (subst (λ n. has_fact facts (Link n r (slice_index_or live y 0)) ≡ true) (sym first)
-      (subst (λ n. has_fact facts (Link a r n) ≡ true) (sym second) (finds facts (Link a r b) there)))
+      (subst (λ n. has_fact facts (Link a r n) ≡ true) (sym second) ((tells (Link a r b)).1 there)))
 
   module _ (numbers : List (Option ℕ)) (are : AreNumbered live numbers) where
     -- what a fact says of a class

@@ -1,6 +1,6 @@
 -- Parts of lists, and values by their keys.
 use Rattle.std.proofs.Common.{◌≡◌, ℕ, zero, suc, ◌+◌, ◌<◌, List, [], ◌∷◌, ◌++◌, map, take, get_or, length, All, Contains, Option, Some, None, slice_get, slice_set, refl, sym, ap, subst, ◌∙◌, arith, ⊎_elim}
-use Rattle.std.specs.Prelude.{slice_index_or, flat_map, if◌then◌else◌}
+use Rattle.std.specs.Prelude.{slice_index_or, flat_map, if◌then◌else◌, ◌↔◌}
 use Rattle.std.specs.List.{filter_map, cons_option}
 use Rattle.std.specs.Option.{option_to_list, option_map}
 use Rattle.std.proofs.Math.Dec.{eqb-zero-suc, eqb-suc-zero, eqb-suc-suc}
@@ -20,26 +20,22 @@ contains_at xs k x at = (k, slice_get_within xs k x at, get_or_from_slice_get xs
 pub all_if_each : {X : Type 0} (P : X → Type 0) (xs : List X) → ((x : X) → Contains xs x → P x) → All P xs
 all_if_each P xs each = All-weaker (Contains xs) P each xs (All-contains_itself xs)
 
--- an element of lists in a row is one of a list
-pub in_one : {X A : Type 0} (f : X → List A) (xs : List X) (a : A) → Contains (flat_map f xs) a → (x : X) × Contains xs x × Contains (f x) a
-in_one f [] a there = let none = there.1 in absurd (omega arith)
-in_one f (x ∷ xs) a there = ⊎_elim
-    (λ first. (x, (0, omega arith, refl), first))
-    (λ later. let found = in_one f xs a later in let (k, within, same) = found.1 in (found.0, (suc k, omega (arith, within), same), found.2))
-    (Contains-append_cases (f x) (flat_map f xs) a there)
-
--- and the other way round
+-- an element of one of some lists is one of them in a row
 pub in_row : {X A : Type 0} (f : X → List A) (xs : List X) (x : X) (a : A) → Contains xs x → Contains (f x) a → Contains (flat_map f xs) a
 in_row f [] x a there has = let none = there.1 in absurd (omega arith)
 in_row f (first ∷ xs) x a (zero, within, same) has = Contains-append_left (f first) (flat_map f xs) a (subst (λ y. Contains (f y) a) (sym same) has)
 in_row f (first ∷ xs) x a (suc k, within, same) has = Contains-append_right (f first) (flat_map f xs) a (in_row f xs x a (k, omega (arith, within), same) has)
 
--- what each of lists in a row has, all have
-pub all_in_row : {X A : Type 0} (P : A → Type 0) (f : X → List A) (xs : List X) → ((x : X) → Contains xs x → All P (f x)) → All P (flat_map f xs)
-all_in_row P f [] each = All-nil P
-all_in_row P f (first ∷ xs) each =
-    All-append P (f first) (flat_map f xs) (each first (0, omega arith, refl))
-    (all_in_row P f xs (λ x there. each x (suc there.0, omega (arith, there.1), there.2)))
+-- lists in a row have just the elements that one of them has
+pub row_has : {X A : Type 0} (f : X → List A) (xs : List X) (a : A) → Contains (flat_map f xs) a ↔ ((x : X) × Contains xs x × Contains (f x) a)
+row_has f [] a = (λ there. let none = there.1 in absurd (omega arith), λ (x, there, has). in_row f [] x a there has)
+row_has f (x ∷ xs) a = (
+  λ there. ⊎_elim
+      (λ first. (x, (0, omega arith, refl), first))
+      (λ later. let found = (row_has f xs a).0 later in let (k, within, same) = found.1 in (found.0, (suc k, omega (arith, within), same), found.2))
+      (Contains-append_cases (f x) (flat_map f xs) a there),
+  λ (y, there, has). in_row f (x ∷ xs) y a there has,
+)
 
 -- a value alone
 alone : {Y : Type 0} (o : Option Y) → cons_option o [] ≡ option_to_list o

@@ -18,7 +18,7 @@ use Rattle.case_file.specs.Cases.{CaseView, IsMustHave, row_at}
 use Rattle.case_file.specs.Incoherence.{name_of, axioms_of_ranks, axioms_for, IsIncoherentFor}
 use Rattle.closed_model.specs.ClosedTables.{TableView}
 use Rattle.closed_model.specs.Models.{reading_of, IsSaidBy, IsModelFor}
-use Rattle.closed_model.proofs.ListLaws.{all_if_each, in_one, in_row, all_in_row}
+use Rattle.closed_model.proofs.ListLaws.{all_if_each, row_has, in_row}
 use Rattle.closed_model.proofs.Stated.{documents, stated}
 
 -- the other way round
@@ -90,7 +90,10 @@ module _ (table : TableView)
     pub all_hold : All (Holds i) (axioms_for table.case part table.ranks)
     all_hold = All-append (Holds i) (axioms_of_part table.case.left table.case.right part) (axioms_of_ranks table.case table.ranks)
         (part_means part (part_holds (documents table.case part) (λ said' there. Contains-append_left (documents table.case part) (flat_map (λ r. slice_index_or table.case.over r []) table.ranks) said' there)))
-        (all_in_row (Holds i) (λ rank. slice_index_or (map (row_at table.case.rows) table.case.order) rank []) table.ranks row_holds)
+        (all_if_each (Holds i) (axioms_of_ranks table.case table.ranks) (λ axiom' there.
+        let row : ℕ → List Axiom = λ rank. slice_index_or (map (row_at table.case.rows) table.case.order) rank [] in
+        let found = (row_has row table.ranks axiom').0 there in
+        All-contains (Holds i) (row found.0) axiom' (row_holds found.0 found.1) found.2))
 
 -- an axiom of a part is one of both
 in_both : (left right : List Axiom) (part : Part) (axiom' : Axiom) → Contains (axioms_of_part left right part) axiom' → Contains (left ++ right) axiom'
@@ -106,7 +109,7 @@ in_more case ranks some part within axiom' there =
     ⊎_elim
     (λ document. Contains-append_left (case.left ++ case.right) (axioms_of_ranks case ranks) axiom' (in_both case.left case.right part axiom' document))
     (λ of_row.
-    let found = in_one row some axiom' of_row in
+    let found = (row_has row some axiom').0 of_row in
     Contains-append_right (case.left ++ case.right) (axioms_of_ranks case ranks) axiom'
     (in_row row ranks found.0 axiom' (All-contains (Contains ranks) some found.0 within found.1) found.2))
     (Contains-append_cases (axioms_of_part case.left case.right part) (axioms_of_ranks case some) axiom' there)

@@ -8,7 +8,7 @@ use Rattle.el_logic.specs.declared.types.Interp.{Interp}
 use Rattle.concept_store.specs.Reading.{Reading, IsIn, AreLinked}
 use Rattle.closed_model.specs.ClosedTables.{TableView}
 use Rattle.closed_model.specs.Models.{reading_of, IsSaidBy}
-use Rattle.closed_model.proofs.ListLaws.{all_if_each, in_one, in_row}
+use Rattle.closed_model.proofs.ListLaws.{all_if_each, row_has, in_row}
 
 -- the numbers below n that pass the test
 those : (ℕ → Bool) → ℕ → List ℕ
@@ -47,7 +47,7 @@ to_those test n x below passed = in_row (λ y. if test y then y ∷ [] else []) 
 from_those : (test : ℕ → Bool) (n x : ℕ) → Contains (those test n) x → (x < n) × (test x ≡ true)
 unfolding those
 from_those test n x there =
-    let found = in_one (λ y. if test y then y ∷ [] else []) (range_with_len 0 n) x there in
+    let found = (row_has (λ y. if test y then y ∷ [] else []) (range_with_len 0 n) x).0 there in
     let one = chosen (test found.0) found.0 x found.2 in
     (subst (λ y. y < n) one.1 (from_range n found.0 found.1), subst (λ y. test y ≡ true) one.1 one.0)
 
@@ -60,9 +60,9 @@ to_pairs test n x y left right passed =
 from_pairs : (test : ℕ → ℕ → Bool) (n : ℕ) (p : ℕ × ℕ) → Contains (pairs_of_those test n) p → (p.0 < n) × (p.1 < n) × (test p.0 p.1 ≡ true)
 unfolding pairs_of_those
 from_pairs test n p there =
-    let first = in_one {A = ℕ × ℕ} (λ a. flat_map (λ b. if test a b then (a, b) ∷ [] else []) (range_with_len 0 n)) (range_with_len 0 n) p there in
+    let first = (row_has {A = ℕ × ℕ} (λ a. flat_map (λ b. if test a b then (a, b) ∷ [] else []) (range_with_len 0 n)) (range_with_len 0 n) p).0 there in
     let a = first.0 in
-    let second = in_one {A = ℕ × ℕ} (λ b. if test a b then (a, b) ∷ [] else []) (range_with_len 0 n) p first.2 in
+    let second = (row_has {A = ℕ × ℕ} (λ b. if test a b then (a, b) ∷ [] else []) (range_with_len 0 n) p).0 first.2 in
     let b = second.0 in
     let one = chosen {X = ℕ × ℕ} (test a b) (a, b) p second.2 in
     subst (λ (q : ℕ × ℕ). (q.0 < n) × (q.1 < n) × (test q.0 q.1 ≡ true)) one.1 (from_range n a first.1, from_range n b second.1, one.0)

@@ -19,7 +19,7 @@ use Rattle.closed_model.specs.Models.{HaveTheSame}
 use Rattle.closed_model.specs.Inside.Ordered.{AreListsOf, IsReadOff}
 use Rattle.closed_model.proofs.ListLaws.{all_if_each}
 use Rattle.closed_model.proofs.Numbering.{live_count_is, numbered}
-use Rattle.closed_model.proofs.EntryLaws.{kept_of, kept_is, passed_value, members_are, pairs_are}
+use Rattle.closed_model.proofs.EntryLaws.{Tells, kept_of, kept_is, passed_value, members_are, pairs_are}
 
 -- an entry with the key has the value
 entry_is : {T : Type 0} (key : ℕ) (entry : ℕ × T) (value : T) → value_at key entry ≡ Some value → entry ≡ (key, value)
@@ -61,7 +61,8 @@ lists_more ordered more before after one list more_is after_is same so_far =
 
 module _ (table : TableView) (i : Interp)
     (inside : (n x : ℕ) → IsIn (reading_of table) n x → x < (reading_of table).size)
-    (linked : (r x y : ℕ) → AreLinked (reading_of table) r x y → (x < (reading_of table).size) × (y < (reading_of table).size)) where
+    (linked : (r x y : ℕ) → AreLinked (reading_of table) r x y → (x < (reading_of table).size) × (y < (reading_of table).size))
+    (tells : Tells (facts_of table.items)) where
   -- an interpretation with these lists is what the closed table says
   pub said_by_lists : (numbers : List (Option ℕ)) → numbers ≡ numbers_of (facts_of table.items) (length table.case.store.nodes) → 1 ≤ (reading_of table).size
       → i.size ≡ live_count (facts_of table.items) (length table.case.store.nodes)
@@ -76,11 +77,11 @@ module _ (table : TableView) (i : Interp)
       let are = subst (AreNumbered live) (sym numbers_are) (numbered facts nodes) in
       let in_class : (k x : ℕ) → k < table.case.classes → Contains (slice_index_or i.classes k []) x ↔ IsIn (reading_of table) (k + 2) x = λ k x below.
       let listed = members.values k x below in
-      let read = members_are facts live numbers are table.case.classes k x below in
+      let read = members_are facts live tells numbers are table.case.classes k x below in
       (λ there. read.0 (listed.0 there), λ is. listed.1 (read.1 is)) in
       let in_role : (r x y : ℕ) → r < table.case.properties → Contains {X = ℕ × ℕ} (slice_index_or i.roles r []) (x, y) ↔ AreLinked (reading_of table) r x y = λ r x y below.
       let listed = pairs.values r (x, y) below in
-      let read = pairs_are facts live numbers are table.case.properties r x y below in
+      let read = pairs_are facts live tells numbers are table.case.properties r x y below in
       (λ there. read.0 (listed.0 there), λ is. listed.1 (read.1 is)) in
       record {
         fits = record {

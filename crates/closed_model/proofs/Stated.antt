@@ -14,7 +14,7 @@ use Rattle.el_rules.specs.Rules.{Gives}
 use Rattle.el_rules.specs.Theories.{IsStated, IsNumbered}
 use Rattle.el_rules.specs.Following.{AreClosed}
 use Rattle.case_file.specs.Cases.{CaseView, theory_of}
-use Rattle.closed_model.proofs.ListLaws.{in_one}
+use Rattle.closed_model.proofs.ListLaws.{row_has}
 
 -- the axioms over nodes of a part
 abbrev pub documents : CaseView → Part → List NodeAxiom
@@ -57,7 +57,7 @@ row_stated case Part.Both ranks said rank number there is = (Source.Row rank num
 pub is_stated : (case : CaseView) (part : Part) (ranks : List ℕ) (said : NodeAxiom) → Contains (stated case part ranks) said → IsStated (theory_of case) part ranks said
 is_stated case part ranks said there = ⊎_elim
     (document_stated case part ranks said)
-    (λ row. let at = in_one (λ rank. slice_index_or case.over rank []) ranks said row in
+    (λ row. let at = (row_has (λ rank. slice_index_or case.over rank []) ranks said).0 row in
     let found = numbered (slice_index_or case.over at.0 []) said at.2 in
     row_stated case part ranks said at.0 found.0 at.1 found.1)
     (Contains-append_cases (documents case part) (flat_map (λ rank. slice_index_or case.over rank []) ranks) said there)

@@ -4,6 +4,7 @@ ghost use Rattle.std.specs.Prelude.{◌≡◌, IfOk};
 ghost use Rattle.fact_table.specs.Lists.{facts_of};
 ghost use Rattle.closed_model.specs.Inside.Elements.{number_of, numbers_of, live_count};
 
+use el_rules::facts_are_found_where_they_are;
 use fact_layers::Base;
 use fact_table::{Fact, Facts};
 use std::alloc::{AllocError, Global};
@@ -19,6 +20,7 @@ pub struct Elements {
 fn number_of(base: &Base, node: u32, element: u32) -> Option<u32>
     ensures { result ≡ number_of (facts_of base.now) node element }
 {
+    facts_are_found_where_they_are();
     match base.find(Fact::Sub(node, 1)) {
         Some(_) => None,
         None => Some(element),

@@ -12,6 +12,7 @@ use crate::laws::{closed_tables_say_readings, what_a_closed_table_says_is_a_mode
 use crate::lists::{number_lists, pair_lists};
 use case_file::Case;
 use el_logic::Interp;
+use el_rules::facts_are_found_where_they_are;
 use fact_layers::Base;
 use std::alloc::{AllocError, Global};
 
@@ -20,6 +21,7 @@ pub fn read_off(alloc: Global, case: &Case, base: &Base) -> Result<Interp, Alloc
     ensures lists { IfOk result (IsReadOff case.now (facts_of base.now)) }
     ensures ordered { IfOk result HasOrderedLists }
 {
+    facts_are_found_where_they_are();
     let classes = case.classes();
     let properties = case.properties();
     let elements = number_elements(alloc, case.store().nodes(), base)?;
@@ -40,6 +42,7 @@ pub fn model_of(alloc: Global, table: &ClosedTable) -> Result<Interp, AllocError
     ensures said { IfOk result (IsSaidBy table.now) }
     ensures ordered { IfOk result HasOrderedLists }
 {
+    facts_are_found_where_they_are();
     closed_tables_say_readings();
     what_a_closed_table_says_is_a_model();
     let case = table.case();

@@ -1,7 +1,6 @@
 //! What an axiom over nodes and roles says of them.
 
-ghost use Rattle.std.specs.Prelude.{◌≡◌, ◌≢◌, ℕ, IsTrue, ◌↔◌, Some, slice_get, Contains, IfSome, IfNone, [], ◌∷◌};
-ghost use Rattle.derivation.specs.Inside.Chains.{led_to};
+ghost use Rattle.std.specs.Prelude.{◌≡◌, ◌≢◌, ◌==◌, ℕ, IsTrue, ◌↔◌, Some, slice_get, Contains, IfSome, IfNone, [], ◌∷◌, length, if◌then◌else◌};
 ghost use Rattle.el_rules.specs.Saying.{Includes, Separates, IncludesRole, JoinsAlong, Joins, MakesReflexive, HasDomain};
 
 use concept_store::NodeAxiom;
@@ -86,7 +85,7 @@ fn is_only(numbers: &[u32], number: u32) -> bool
 // What the front of a chain and its next role lead to: a part, or at the end what the whole chain
 // is within.
 fn led_to(more: &[u32], part: u64, into: u32) -> u64
-    ensures { result ≡ led_to more.now part into }
+    ensures { result ≡ (if length more.now == 0 then into else part) }
 {
     if more.is_empty() {
         u64::from(into)

@@ -4,8 +4,8 @@ ghost use Rattle.std.specs.Prelude.{◌≡◌, ◌<◌, ◌^◌, ◌++◌, ℕ, 
 ghost use Rattle.std.specs.List.Sorted.{IsStrictlyIncreasing};
 ghost use Rattle.el_logic.specs.declared.types.Part.{Part};
 ghost use Rattle.el_logic.specs.Meaning.{IsInterp, Holds};
+ghost use Rattle.case_file.specs.Cases.{AreRanksOf};
 ghost use Rattle.case_file.specs.Incoherence.{axioms_for};
-ghost use Rattle.closed_model.specs.ClosedTables.{AreRanksOf};
 ghost use Rattle.closed_model.specs.Models.{IsModelFor};
 ghost use Rattle.byte_words.specs.Faults.{OrOutOfMemory};
 ghost use Rattle.model_check.specs.Faults.{IsModelFault, IsFirstFailing, sourced_axioms};

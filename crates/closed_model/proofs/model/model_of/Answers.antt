@@ -16,7 +16,7 @@ returns-clause-said c =
     let reading = c.closed_tables_say_readings.ensures.reading table is_case closed in
     let some = inhabited table (λ node must. c.closed_tables_say_readings.ensures.members table node is_case closed must) in
     IfOk-weaker c.read_off.result (IsReadOff c.deref-2.result.now (facts_of c.base.result.now)) (IsSaidBy table) (λ i read.
-    said_if_read table i reading.inside reading.linked_inside c.deref-2.result.now c.base.result.now (c.deref-2.ensures ∙ c.case-case.ensures.case) c.base.ensures some read)
+    said_if_read table i reading.inside reading.linked_inside (c.facts_are_found_where_they_are.ensures (facts_of table.items)) c.deref-2.result.now c.base.result.now (c.deref-2.ensures ∙ c.case-case.ensures.case) c.base.ensures some read)
     c.read_off.ensures.lists
 
 pub returns-clause-model : goal.returns-clause-model
@@ -28,5 +28,5 @@ returns-clause-model c =
     let some = inhabited table (λ node must. c.closed_tables_say_readings.ensures.members table node is_case closed must) in
     IfOk-weaker c.read_off.result (IsReadOff c.deref-2.result.now (facts_of c.base.result.now)) (IsModelFor table.case table.ranks) (λ i read.
     c.what_a_closed_table_says_is_a_model.ensures table i is_case closed
-    (said_if_read table i reading.inside reading.linked_inside c.deref-2.result.now c.base.result.now (c.deref-2.ensures ∙ c.case-case.ensures.case) c.base.ensures some read))
+    (said_if_read table i reading.inside reading.linked_inside (c.facts_are_found_where_they_are.ensures (facts_of table.items)) c.deref-2.result.now c.base.result.now (c.deref-2.ensures ∙ c.case-case.ensures.case) c.base.ensures some read))
     c.read_off.ensures.lists

@@ -15,7 +15,7 @@ number_lists-requires c =
     let live = live_from facts 0 c.nodes.result in
     let numbers = c.as_slice-of_node.result.now in
     let are = subst (AreNumbered live) (sym (c.as_slice-of_node.ensures.value ∙ c.in_ok-elements.ensures.numbers)) (numbered facts c.nodes.result) in
-    subst (All (λ (entry : ℕ × ℕ). entry.0 < c.classes-classes.result)) (sym (c.as_slice.ensures.value ∙ c.in_ok-members.ensures)) (member_keys facts live numbers are c.classes-classes.result)
+    subst (All (λ (entry : ℕ × ℕ). entry.0 < c.classes-classes.result)) (sym (c.as_slice.ensures.value ∙ c.in_ok-members.ensures)) (member_keys facts live (c.facts_are_found_where_they_are.ensures facts) numbers are c.classes-classes.result)
 
 pub pair_lists-requires : goal.pair_lists-requires
 pair_lists-requires c =
@@ -23,7 +23,7 @@ pair_lists-requires c =
     let live = live_from facts 0 c.nodes.result in
     let numbers = c.as_slice-of_node.result.now in
     let are = subst (AreNumbered live) (sym (c.as_slice-of_node.ensures.value ∙ c.in_ok-elements.ensures.numbers)) (numbered facts c.nodes.result) in
-    subst (All (λ (entry : ℕ × (ℕ × ℕ)). entry.0 < c.properties-properties.result)) (sym (c.as_slice-2.ensures.value ∙ c.in_ok-pairs.ensures)) (pair_keys facts live numbers are c.properties-properties.result)
+    subst (All (λ (entry : ℕ × (ℕ × ℕ)). entry.0 < c.properties-properties.result)) (sym (c.as_slice-2.ensures.value ∙ c.in_ok-pairs.ensures)) (pair_keys facts live (c.facts_are_found_where_they_are.ensures facts) numbers are c.properties-properties.result)
 
 pub returns-clause-lists : goal.returns-clause-lists
 returns-clause-lists c =

@@ -1,0 +1,15 @@
+pub mod Giving
+pub mod PlaceLaws
+pub mod Closings
+pub mod SourceLaws
+pub mod GrowthLaws
+pub mod LoopLaws
+pub mod SingleLaws
+pub mod OpenLaws
+pub mod WalkLaws
+pub mod JoinLaws
+pub mod PairLaws
+pub mod DisjointLaws
+pub mod AnswerLaws
+pub mod BeginLaws
+pub mod RowLaws

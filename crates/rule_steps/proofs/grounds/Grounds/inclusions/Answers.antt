@@ -1,0 +1,19 @@
+use Rattle.std.proofs.Common.{◌∙◌, subst}
+use Rattle.concept_store.specs.declared.types.NodeAxiom.{NodeAxiom}
+use Rattle.el_rules.specs.Saying.{Includes}
+use Rattle.case_tables.specs.declared.types.Inclusion.{Inclusion}
+use Rattle.case_tables.specs.Keyed.{of_key}
+use Rattle.case_tables.specs.Entries.{inclusions_said}
+use Rattle.case_tables.specs.Tables.{said_in}
+use Rattle.rule_steps.specs.Counted.{GroundsView}
+use Rattle.rule_steps.specs.Inside.Entries.{AreEntriesOf}
+use Rattle.rule_steps.proofs.SourceLaws.{counted_entries}
+use Rattle.rule_steps.proofs.grounds.Grounds.inclusions.Goals as goal
+
+pub returns : goal.returns
+returns c =
+    let view : GroundsView = record { case = c.self.inside.case.now; part = c.self.inside.part; ranks = c.self.inside.ranks.now } in
+    let Says : Inclusion → NodeAxiom → Type 0 = λ e said. Includes said c.args.node e.into in
+    subst (λ (g : GroundsView). AreEntriesOf g (λ (e : Inclusion). e.source) Says c.inclusions.result.now) c.self.view_is
+    (counted_entries view (λ e. e.source) Says c.inclusions.result.now (of_key (said_in inclusions_said c.self.inside.case.now) c.args.node) c.self.invariant.1
+    (c.inclusions.ensures ∙ c.self.invariant.0.inclusions c.args.node) (c.inclusions_are_what_axioms_include.ensures c.self.inside.case.now c.args.node))
