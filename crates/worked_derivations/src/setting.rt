@@ -9,7 +9,7 @@ use derivation::{BadStep, Derivation, Step, check_derivation};
 use el_logic::Part;
 use fact_table::{Fact, Rule, Source};
 use ofn_axiom::Mode;
-use std::alloc::Global;
+use std::alloc::{AllocError, Global};
 use std::test::Fail;
 use text_names::Limits;
 
@@ -44,38 +44,33 @@ fn are_ranks(case: &Case, ranks: &[u32]) -> bool
     true
 }
 
+/// A step as the tables have it: its fact, its rule, its premises and its source.
+pub type Line = (Fact, Rule, usize, usize, Source);
+
+pub fn steps(alloc: Global, lines: &[Line]) -> Result<Derivation, AllocError> {
+    let mut derivation = Derivation::new(alloc);
+    for line in lines {
+        derivation.push(Step {
+            first: line.2,
+            second: line.3,
+            fact: line.0,
+            source: line.4,
+            rule: line.1,
+        })?;
+    }
+    Ok(derivation)
+}
+
 pub fn checked(
     alloc: Global,
     case: &Case,
     part: Part,
     ranks: &[u32],
-    steps: &[Step],
+    lines: &[Line],
 ) -> Result<Result<(), BadStep>, Fail> {
-    let derivation = Derivation::from_slice(alloc, steps)?;
+    let derivation = steps(alloc, lines)?;
     if !are_ranks(case, ranks) {
         return Err("no ranks of this case".into());
     }
     Ok(check_derivation(case, &derivation, part, ranks))
-}
-
-// A step that starts from no axiom.
-pub fn plain(fact: Fact, rule: Rule, first: usize, second: usize) -> Step {
-    Step {
-        first,
-        second,
-        fact,
-        source: Source::Nothing,
-        rule,
-    }
-}
-
-// A step that starts from an axiom.
-pub fn said(fact: Fact, rule: Rule, first: usize, second: usize, source: Source) -> Step {
-    Step {
-        first,
-        second,
-        fact,
-        source,
-        rule,
-    }
 }

@@ -1,25 +1,22 @@
 //! A derivation that is read off a table of facts.
 
-ghost use Rattle.std.specs.Prelude.{◌<◌, IfOk};
-ghost use Rattle.derivation.specs.Traces.{EachNamesEarlier};
+ghost use Rattle.std.specs.Prelude.{ℕ, IsTrue, ◌<◌, IfOk};
+ghost use Rattle.derivation.specs.Traces.{IsPremiseOf, EachNamesEarlier};
 
-use crate::rules::{LEFT, RIGHT, left};
-use crate::setting::{HEADER, checked, made, plain, said};
+use crate::rows::GIVEN;
+use crate::setting::{Line, steps};
 use derivation::trace;
-use el_logic::Part;
 use fact_table::{Fact, Facts, FactsByPlace, FlatFacts, Proved, Reason, Rule, Source};
 use std::alloc::{AllocError, Global};
 use std::test::Fail;
 
-fn told(fact: Fact, rule: Rule, first: usize, second: usize, source: Source) -> Proved {
-    Proved {
-        fact,
-        reason: Reason {
-            first,
-            second,
-            source,
-            rule,
-        },
+// The rule of the reason starts from nothing, or from facts at earlier places.
+fn names_earlier(reason: &Reason, place: usize) -> bool
+    ensures { IsTrue result → (k : ℕ) → IsPremiseOf reason.now k → k < place }
+{
+    match reason.rule {
+        Rule::Itself | Rule::Top => true,
+        _ => reason.first < place && reason.second < place,
     }
 }
 
@@ -29,9 +26,7 @@ fn put(table: &mut FlatFacts, item: Proved)
     requires earlier { EachNamesEarlier table.old.list }
     ensures { EachNamesEarlier table.new.list }
 {
-    let place = table.len();
-    let is_first = matches!(item.reason.rule, Rule::Itself | Rule::Top);
-    if !is_first && (item.reason.first >= place || item.reason.second >= place) {
+    if !names_earlier(&item.reason, table.len()) {
         return;
     }
     match table.find(item.fact) {
@@ -42,56 +37,63 @@ fn put(table: &mut FlatFacts, item: Proved)
     }
 }
 
-fn listed(alloc: Global, items: &[Proved]) -> Result<FlatFacts, AllocError>
+fn listed(alloc: Global, lines: &[Line]) -> Result<FlatFacts, AllocError>
     ensures { IfOk result (λ table. EachNamesEarlier table.list) }
 {
     let mut table = FlatFacts::new(alloc);
-    for item in items {
+    for line in lines {
         table.reserve(1)?;
-        put(&mut table, *item);
+        put(&mut table, proved(line));
     }
     Ok(table)
 }
 
-// Three of these facts are not needed for the last but one.
-fn items() -> [Proved; 12] {
-    let none = Source::Nothing;
-    [
-        told(Fact::Sub(2, 2), Rule::Itself, 0, 0, none),
-        told(Fact::Sub(2, 0), Rule::Top, 0, 0, none),
-        told(Fact::Sub(2, 7), Rule::Incl, 0, 0, left(1)),
-        told(Fact::Sub(2, 3), Rule::Left, 2, 0, none),
-        told(Fact::Sub(2, 4), Rule::Right, 2, 0, none),
-        told(Fact::Sub(2, 8), Rule::Incl, 3, 0, left(2)),
-        told(Fact::Link(2, 0, 4), Rule::Out, 5, 0, none),
-        told(Fact::Sub(3, 3), Rule::Itself, 0, 0, none),
-        told(Fact::Link(2, 1, 4), Rule::Role, 6, 0, left(3)),
-        told(Fact::Sub(2, 5), Rule::Dom, 8, 0, left(6)),
-        told(Fact::Sub(2, 1), Rule::Disj, 9, 4, left(7)),
-        told(Fact::Sub(3, 0), Rule::Top, 0, 0, none),
-    ]
+fn proved(line: &Line) -> Proved {
+    Proved {
+        fact: line.0,
+        reason: Reason {
+            first: line.2,
+            second: line.3,
+            source: line.4,
+            rule: line.1,
+        },
+    }
 }
+
+const NONE: Source = Source::Nothing;
+
+// The facts of the derivation `GIVEN`, with three that it does not need. Premises are places here,
+// which count from 0.
+const ITEMS: [Line; 8] = [
+    (Fact::Sub(2, 2), Rule::Itself, 0, 0, NONE),
+    (Fact::Sub(2, 0), Rule::Top, 0, 0, NONE),
+    (
+        Fact::Sub(2, 4),
+        Rule::Incl,
+        0,
+        0,
+        Source::Row { rank: 0, number: 1 },
+    ),
+    (Fact::Sub(2, 5), Rule::Incl, 2, 0, Source::Right(1)),
+    (Fact::Sub(3, 3), Rule::Itself, 0, 0, NONE),
+    (
+        Fact::Sub(2, 3),
+        Rule::Incl,
+        3,
+        0,
+        Source::Row { rank: 1, number: 2 },
+    ),
+    (Fact::Sub(2, 1), Rule::Disj, 0, 5, Source::Left(1)),
+    (Fact::Sub(3, 0), Rule::Top, 0, 0, NONE),
+];
 
 #[test]
 fn traces_what_is_needed(rt: HostRuntime) -> Result<(), Fail> {
     let alloc = rt.alloc();
-    let table = listed(alloc, &items())?;
-    assert!(rt; 10 < table.len());
-    let derivation = trace(alloc, &table, 10)?;
-    let wanted = [
-        plain(Fact::Sub(2, 2), Rule::Itself, 0, 0),
-        said(Fact::Sub(2, 7), Rule::Incl, 1, 0, left(1)),
-        plain(Fact::Sub(2, 3), Rule::Left, 2, 0),
-        plain(Fact::Sub(2, 4), Rule::Right, 2, 0),
-        said(Fact::Sub(2, 8), Rule::Incl, 3, 0, left(2)),
-        plain(Fact::Link(2, 0, 4), Rule::Out, 5, 0),
-        said(Fact::Link(2, 1, 4), Rule::Role, 6, 0, left(3)),
-        said(Fact::Sub(2, 5), Rule::Dom, 7, 0, left(6)),
-        said(Fact::Sub(2, 1), Rule::Disj, 8, 4, left(7)),
-    ];
+    let table = listed(alloc, &ITEMS)?;
+    assert!(rt; 6 < table.len());
+    let derivation = trace(alloc, &table, 6)?;
+    let wanted = steps(alloc, &GIVEN)?;
     assert_eq!(rt; derivation.as_slice(), wanted.as_slice());
-    let loaded = made(alloc, LEFT, RIGHT, HEADER)?;
-    let answer = checked(alloc, &loaded.case, Part::Left, &[], derivation.as_slice())?;
-    assert_eq!(rt; answer, Ok(()));
     Ok(())
 }
