@@ -1,4 +1,4 @@
-use Rattle.std.proofs.Common.{◌≡◌, ◌<◌, sym, subst}
+use Rattle.std.proofs.Common.{◌<◌, sym, subst}
 use Rattle.derivation.specs.Traces.{EachNamesEarlier}
 use Rattle.worked_derivations.proofs.PutLaws.{put_earlier}
 use Rattle.worked_derivations.proofs.traces.put.Goals as goal
