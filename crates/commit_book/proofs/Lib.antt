@@ -1,0 +1,10 @@
+pub mod FrontLaws
+pub mod BackLaws
+pub mod SettleLaws
+pub mod EventLaws
+pub mod TellLaws
+pub mod RankLaws
+pub mod OpeningLaws
+pub mod PutLaws
+pub mod CallLaws
+pub mod GrowthLaws

@@ -1,0 +1,4 @@
+-- What only the code of this crate and its proofs cite.
+pub mod Codes
+pub mod Holdings
+pub mod Laws
