@@ -1,0 +1,12 @@
+mod Giving
+mod Places
+mod RoleBounds
+mod RoleLaws
+mod EmptyLaws
+mod OldFacts
+mod ClashLaws
+mod LoopLaws
+mod ReadyLaws
+mod EnterLaws
+mod DecideLaws
+mod RankLaws
