@@ -6,3 +6,4 @@ pub mod JournalLaws
 pub mod ModelLaws
 pub mod FrontLaws
 pub mod PutLaws
+pub mod PlainLaws

@@ -4,4 +4,5 @@ pub mod Names
 pub mod Omitted
 pub mod Journal
 pub mod Model
+pub mod LineLaw
 pub mod Inside

@@ -98,3 +98,12 @@ AreElementNumbers (x ∷ xs) = (x < 2 ^ 32) × AreElementNumbers xs
 abbrev pub ArePairNumbers : List (ℕ × ℕ) → Type 0
 ArePairNumbers [] = ⊤
 ArePairNumbers (p ∷ ps) = (p.0 < 2 ^ 32) × (p.1 < 2 ^ 32) × ArePairNumbers ps
+
+-- the class, or the property, has a line: its place is small enough, and its list ascends
+pub record HasClassLine (place : ℕ) (members : List ℕ) : Type 0 where
+  pub small : place + 2 < 2 ^ 32
+  pub ascend : ElementsAscend None members
+
+pub record HasPropertyLine (place : ℕ) (pairs : List (ℕ × ℕ)) : Type 0 where
+  pub small : place < 2 ^ 32
+  pub ascend : PairsAscend None pairs

@@ -43,9 +43,9 @@ impl<'a> Cursor<'a> {
 
     /// The fields of the next line, and the place after it. A line that is not ended has none.
     #[tactic(auto, using(crate::proofs::PieceLaws::first_line, crate::proofs::PieceLaws::open_line))]
-    pub fn next(self) -> Option<(Fields<'a>, Cursor<'a>)>
-        ensures lines { MatchOption result (self.entry.lines ≡ []) (λ x. self.entry.lines ≡ x.0 ∷ x.1.lines) }
-        ensures read { MatchOption result (self.entry.lines ≡ []) (λ x. x.1.read ≡ self.entry.read + 1) }
+    pub fn next(&self) -> Option<(Fields<'a>, Cursor<'a>)>
+        ensures lines { MatchOption result (self.now.lines ≡ []) (λ x. self.now.lines ≡ x.0 ∷ x.1.lines) }
+        ensures read { MatchOption result (self.now.lines ≡ []) (λ x. x.1.read ≡ self.now.read + 1) }
     {
         if self.text.is_empty() {
             return None;
