@@ -1,6 +1,6 @@
 //! Lines of a model.
 
-ghost use Rattle.std.specs.Prelude.{◌≡◌, ◌+◌, ◌≤◌, ◌<◌, ◌^◌, IfOk, None, Some};
+ghost use Rattle.std.specs.Prelude.{◌≡◌, ◌+◌, ◌≤◌, ◌<◌, ◌^◌, IfOk, IfSome, None, Some};
 ghost use Rattle.std.specs.Option.{option_map};
 ghost use Rattle.evidence_lines.specs.Model.{elements_in, pair_in, pairs_in, after_number, after_word, members_of, pairs_of, element_follows, is_pair_before, pair_follows};
 
@@ -16,7 +16,8 @@ fn after_word<'a>(word: &[u8], fields: Fields<'a>) -> Option<Fields<'a>>
 }
 
 fn after_number(number: u64, fields: Fields<'_>) -> Option<Fields<'_>>
-    ensures { result ≡ after_number number fields.entry }
+    ensures rest { result ≡ after_number number fields.entry }
+    ensures small { IfSome result (λ rest. number < 2 ^ 32) }
 {
     let (found, rest) = fields.short()?;
     if u64::from(found) == number {
@@ -63,7 +64,8 @@ pub fn members_of(
     fields: Fields<'_>,
 ) -> Result<Option<Numbers>, AllocError>
     requires { place + 2 < 2 ^ 64 }
-    ensures { IfOk result (λ members. members ≡ members_of place fields.entry) }
+    ensures members { IfOk result (λ members. members ≡ members_of place fields.entry) }
+    ensures small { IfOk result (λ found. IfSome found (λ members. place + 2 < 2 ^ 32)) }
 {
     let Some(numbered) = after_word(b"class", fields) else {
         return Ok(None);
@@ -123,7 +125,8 @@ fn pair_of<'a>(field: &[u8], fields: Fields<'a>) -> Option<((u32, u32), Fields<'
 /// The pairs of the property with this place, from 0, in a line with these fields.
 #[tactic(auto, unfolding(crate::specs::Model::pairs_of))]
 pub fn pairs_of(alloc: Global, place: u64, fields: Fields<'_>) -> Result<Option<Pairs>, AllocError>
-    ensures { IfOk result (λ pairs. pairs ≡ pairs_of place fields.entry) }
+    ensures pairs { IfOk result (λ pairs. pairs ≡ pairs_of place fields.entry) }
+    ensures small { IfOk result (λ found. IfSome found (λ pairs. place < 2 ^ 32)) }
 {
     let Some(numbered) = after_word(b"role", fields) else {
         return Ok(None);

@@ -1,1 +1,6 @@
-
+pub mod EntryLaws
+pub mod OptionLaws
+pub mod SectionLaws
+pub mod WholeLaws
+pub mod RowLaws
+pub mod WriteLaws

@@ -66,17 +66,14 @@ removed_lines r = row_fields r.row (length r.steps) ∷ map step_fields r.steps
 abbrev pub rows_lines : List Removed → List Fields
 rows_lines rows = numbered (codes "removed") (length rows) ∷ flat_map removed_lines rows
 
--- the classes, and the properties, from a place on
-abbrev pub class_lines : ℕ → List (List ℕ) → List Fields
-class_lines place [] = []
-class_lines place (members ∷ classes) = class_fields place members ∷ class_lines (place + 1) classes
+-- a line for each, from a place on
+abbrev pub lines_from : {X : Type 0} → (ℕ → X → Fields) → ℕ → List X → List Fields
+lines_from spell place [] = []
+lines_from spell place (x ∷ xs) = spell place x ∷ lines_from spell (place + 1) xs
 
-abbrev pub property_lines : ℕ → List (List (ℕ × ℕ)) → List Fields
-property_lines place [] = []
-property_lines place (pairs ∷ properties) = property_fields place pairs ∷ property_lines (place + 1) properties
-
+-- the size, then the classes and the properties in order
 abbrev pub model_lines : Interp → List Fields
-model_lines m = numbered (codes "model") m.size ∷ (class_lines 0 m.classes ++ property_lines 0 m.roles)
+model_lines m = numbered (codes "model") m.size ∷ (lines_from class_fields 0 m.classes ++ lines_from property_fields 0 m.roles)
 
 abbrev pub end_fields : Fields
 end_fields = codes "end" ∷ []
@@ -87,13 +84,15 @@ body_lines (body.Diagnosis removed model journal) =
     ++ (section_lines (codes "journal") entry_fields journal.entries ++ end_fields ∷ []))
 body_lines (body.Refusal steps) = section_lines (codes "steps") step_fields steps ++ end_fields ∷ []
 
-abbrev pub evidence_lines : Evidence → List Fields
-evidence_lines e =
-    version_fields ∷ kind_fields e.kind
-    ∷ (section_lines (codes "omitted") omitted_fields (omitted_list e.omitted)
+-- what is left out, the nodes and the roles
+abbrev pub lists_lines : Evidence → List Fields
+lists_lines e =
+    section_lines (codes "omitted") omitted_fields (omitted_list e.omitted)
     ++ (section_lines (codes "nodes") node_fields e.nodes
-    ++ (section_lines (codes "roles") role_fields e.roles
-    ++ body_lines e.body)))
+    ++ section_lines (codes "roles") role_fields e.roles)
+
+abbrev pub evidence_lines : Evidence → List Fields
+evidence_lines e = version_fields ∷ kind_fields e.kind ∷ (lists_lines e ++ body_lines e.body)
 
 -- the text of evidence
 unfoldable pub evidence_text : Evidence → List ℕ
@@ -110,23 +109,18 @@ InOrder follows (Some before) (x ∷ xs) = (follows before x ≡ true) × InOrde
 abbrev pub row_before : Removed → Removed → Bool
 row_before r s = nat_lt r.row s.row
 
--- each class, and each property, has a line at its place
-abbrev pub HaveClassLines : ℕ → List (List ℕ) → Type 0
-HaveClassLines place [] = ⊤
-HaveClassLines place (members ∷ classes) = HasClassLine place members × HaveClassLines (place + 1) classes
-
-abbrev pub HavePropertyLines : ℕ → List (List (ℕ × ℕ)) → Type 0
-HavePropertyLines place [] = ⊤
-HavePropertyLines place (pairs ∷ properties) =
-    HasPropertyLine place pairs × HavePropertyLines (place + 1) properties
+-- each has a line at its place, from a place on
+abbrev pub HaveLinesFrom : {X : Type 0} → (ℕ → X → Type 0) → ℕ → List X → Type 0
+HaveLinesFrom HasLine place [] = ⊤
+HaveLinesFrom HasLine place (x ∷ xs) = HasLine place x × HaveLinesFrom HasLine (place + 1) xs
 
 -- the kind agrees with the body, rows ascend, and each entry has a line
 abbrev pub HasBodyText : Kind → Body → Type 0
 HasBodyText kind.Diagnosis (body.Diagnosis removed model journal) =
     InOrder row_before None removed
     × AllByRecursion (λ r. AllByRecursion HasStepLine r.steps) removed
-    × HaveClassLines 0 model.classes
-    × HavePropertyLines 0 model.roles
+    × HaveLinesFrom HasClassLine 0 model.classes
+    × HaveLinesFrom HasPropertyLine 0 model.roles
     × AllByRecursion HasEntryLine journal.entries
 HasBodyText kind.Diagnosis (body.Refusal steps) = ⊥
 HasBodyText (kind.Refusal p) (body.Diagnosis removed model journal) = ⊥

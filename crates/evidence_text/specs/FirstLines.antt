@@ -25,9 +25,13 @@ abbrev pub is_other_number : List ℕ → Bool
 is_other_number [] = false
 is_other_number (b ∷ bs) = list_all is_digit (b ∷ bs) && not (bytes_eq (b ∷ bs) (codes "1"))
 
-abbrev pub is_other_version : Fields → Bool
-is_other_version (alod ∷ evidence ∷ number ∷ []) =
+abbrev pub names_other : List ℕ → List ℕ → List ℕ → Bool
+names_other alod evidence number =
     bytes_eq alod (codes "alod") && (bytes_eq evidence (codes "evidence") && is_other_number number)
+
+-- the line says another version
+abbrev pub is_other_version : Fields → Bool
+is_other_version (alod ∷ evidence ∷ number ∷ []) = names_other alod evidence number
 is_other_version _ = false
 
 abbrev pub part_named : List ℕ → Option Part

@@ -1,7 +1,7 @@
 -- How a text is read: the value, or the first fault.
 use Rattle.std.specs.Prelude.{◌≡◌, ℕ, zero, suc, ◌+◌, ◌==◌, nat_lt, Bool, true, false, ◌&&◌, not, if◌then◌else◌, List, [], ◌∷◌, ◌++◌, codes, bytes_eq, Option, Some, None, Result, Ok, Err, ⊤}
-use Rattle.std.specs.List.{list_all, before_first}
-use Rattle.byte_words.specs.Bytes.{is_line_feed, is_digit}
+use Rattle.std.specs.List.{slice_split}
+use Rattle.byte_words.specs.Bytes.{is_line_feed}
 use Rattle.el_logic.specs.declared.types.Side.{Side}
 use Rattle.el_logic.specs.declared.types.Side.TheVariants as side
 use Rattle.el_logic.specs.declared.types.Part.{Part}
@@ -91,10 +91,6 @@ abbrev pub by_side : List SidedOmitted → SideOmitted
 by_side [] = record { left = []; right = [] }
 by_side (o ∷ os) = on_side o.side (by_side os) o.omitted
 
--- a removed row comes after the one before it
-abbrev pub row_of_place : Option ℕ → Fields → Option (ℕ × ℕ)
-row_of_place before fields = row_of before fields
-
 unfoldable pub rows : ℕ → ℕ → Option ℕ → At → Read (List Removed)
 rows first zero before at = Ok ([], at)
 rows first (suc count) before at = do
@@ -173,10 +169,18 @@ lines_read at = do
     kind = kind.0; omitted = by_side omitted.0; nodes = nodes.0; roles = roles.0; body = body.0;
   }) body.1
 
+abbrev pub first_of : List (List ℕ) → List ℕ
+first_of [] = []
+first_of (piece ∷ pieces) = piece
+
+-- what is before the first line feed, or all of the text
+abbrev pub first_piece : List ℕ → List ℕ
+first_piece text = first_of (slice_split is_line_feed text)
+
 -- the text is read as this value, or has this first fault
 unfoldable pub text_read : List ℕ → Result Evidence EvidenceFault
 text_read text =
-    if is_other_version (fields_of (before_first is_line_feed text)) then Err Version else
+    if is_other_version (fields_of (first_piece text)) then Err Version else
     lines_read (record { read = 0; lines = lines_of text })
 
 -- what a call answers is what reading gives, seen by the view, unless memory ran out

@@ -12,4 +12,5 @@ pub use cursor::Cursor;
 pub use fields::Fields;
 pub use laws::{lines_are_what_is_written, numbers_are_decimal};
 pub use numbers::{long_number, short_number};
+pub use pieces::parted;
 pub use put::{end_line, put_field, put_number};

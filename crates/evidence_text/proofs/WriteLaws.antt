@@ -1,0 +1,34 @@
+-- Lines that are put one after another.
+use Rattle.std.proofs.Common.{◌≡◌, ℕ, ◌+◌, List, [], ◌∷◌, ◌++◌, map, length, refl, ap, sym, ◌∙◌, append_assoc, arith}
+use Rattle.std.specs.List.{flat_map}
+use Rattle.std.proofs.lemmas.List.{length-append, length-map}
+use Rattle.std.proofs.lemmas.List.Concat.{flat_map-cons}
+use Rattle.std.proofs.lemmas.Grind.{flat_map-append}
+use Rattle.el_logic.specs.declared.types.Side.TheVariants as side
+use Rattle.ofn_axiom.specs.declared.types.SideOmitted.{SideOmitted}
+use Rattle.line_fields.specs.Lines.{Fields, line, text_of}
+use Rattle.evidence_lines.specs.Omitted.{omitted_fields}
+use Rattle.evidence_text.specs.EvidenceText.{sided, omitted_list}
+
+-- one line before others
+pub line_more : (text : List ℕ) (first : Fields) (lines : List Fields) → (text ++ line first) ++ text_of lines ≡ text ++ text_of (first ∷ lines)
+line_more text first lines = append_assoc text (line first) (text_of lines) ∙ ap (λ t. text ++ t) (sym (flat_map-cons line first lines))
+
+-- lines after others
+pub lines_more : (text : List ℕ) (lines more : List Fields) → (text ++ text_of lines) ++ text_of more ≡ text ++ text_of (lines ++ more)
+lines_more text lines more = append_assoc text (text_of lines) (text_of more) ∙ ap (λ t. text ++ t) (sym (flat_map-append line lines more))
+
+map-append : {X Y : Type 0} → (f : X → Y) (xs ys : List X) → map f (xs ++ ys) ≡ map f xs ++ map f ys
+map-append f [] ys = refl
+map-append f (x ∷ xs) ys = ap (λ l. f x ∷ l) (map-append f xs ys)
+
+-- the axioms that are left out: their number, and their lines
+pub omitted_count : (o : SideOmitted) → length (omitted_list o) ≡ length o.left + length o.right
+omitted_count o = omega (arith, length-append (map (sided side.Left) o.left) (map (sided side.Right) o.right), length-map o.left (sided side.Left), length-map o.right (sided side.Right))
+
+pub omitted_texts : (text : List ℕ) (o : SideOmitted)
+    → (text ++ text_of (map omitted_fields (map (sided side.Left) o.left))) ++ text_of (map omitted_fields (map (sided side.Right) o.right))
+    ≡ text ++ text_of (map omitted_fields (omitted_list o))
+omitted_texts text o =
+    lines_more text (map omitted_fields (map (sided side.Left) o.left)) (map omitted_fields (map (sided side.Right) o.right))
+    ∙ ap (λ l. text ++ text_of l) (sym (map-append omitted_fields (map (sided side.Left) o.left) (map (sided side.Right) o.right)))
