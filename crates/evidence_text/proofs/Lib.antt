@@ -4,3 +4,4 @@ pub mod SectionLaws
 pub mod WholeLaws
 pub mod RowLaws
 pub mod WriteLaws
+pub mod BodyLaws

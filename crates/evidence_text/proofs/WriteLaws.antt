@@ -1,7 +1,7 @@
 -- Lines that are put one after another.
 use Rattle.std.proofs.Common.{◌≡◌, ℕ, ◌+◌, List, [], ◌∷◌, ◌++◌, map, length, refl, ap, sym, ◌∙◌, append_assoc, arith}
 use Rattle.std.specs.List.{flat_map}
-use Rattle.std.proofs.lemmas.List.{length-append, length-map}
+use Rattle.std.proofs.lemmas.List.{append-nil, length-append, length-map}
 use Rattle.std.proofs.lemmas.List.Concat.{flat_map-cons}
 use Rattle.std.proofs.lemmas.Grind.{flat_map-append}
 use Rattle.el_logic.specs.declared.types.Side.TheVariants as side
@@ -32,3 +32,18 @@ pub omitted_texts : (text : List ℕ) (o : SideOmitted)
 omitted_texts text o =
     lines_more text (map omitted_fields (map (sided side.Left) o.left)) (map omitted_fields (map (sided side.Right) o.right))
     ∙ ap (λ l. text ++ text_of l) (sym (map-append omitted_fields (map (sided side.Left) o.left) (map (sided side.Right) o.right)))
+
+five_parts : (a b c d e : List ℕ) → (((a ++ b) ++ c) ++ d) ++ e ≡ a ++ (b ++ (c ++ (d ++ e)))
+five_parts a b c d e = simp append_assoc
+
+-- two lines, lines, more lines, and a last one
+pub whole_text : (version kind : Fields) (lists body : List Fields) (end : Fields)
+    → (((([] ++ line version) ++ line kind) ++ text_of lists) ++ text_of body) ++ line end ≡ text_of (version ∷ kind ∷ (lists ++ (body ++ end ∷ [])))
+whole_text version kind lists body end =
+    let last : text_of (end ∷ []) ≡ line end = flat_map-cons line end [] ∙ append-nil (line end) in
+    let rest : text_of (lists ++ (body ++ end ∷ [])) ≡ text_of lists ++ (text_of body ++ line end) =
+        flat_map-append line lists (body ++ end ∷ []) ∙ ap (λ t. text_of lists ++ t) (flat_map-append line body (end ∷ []) ∙ ap (λ t. text_of body ++ t) last) in
+    five_parts (line version) (line kind) (text_of lists) (text_of body) (line end)
+    ∙ ap (λ t. line version ++ (line kind ++ t)) (sym rest)
+    ∙ ap (λ t. line version ++ t) (sym (flat_map-cons line kind (lists ++ (body ++ end ∷ []))))
+    ∙ sym (flat_map-cons line version (kind ∷ (lists ++ (body ++ end ∷ []))))

@@ -80,9 +80,8 @@ end_fields = codes "end" ∷ []
 
 abbrev pub body_lines : Body → List Fields
 body_lines (body.Diagnosis removed model journal) =
-    rows_lines removed ++ (model_lines model
-    ++ (section_lines (codes "journal") entry_fields journal.entries ++ end_fields ∷ []))
-body_lines (body.Refusal steps) = section_lines (codes "steps") step_fields steps ++ end_fields ∷ []
+    rows_lines removed ++ (model_lines model ++ section_lines (codes "journal") entry_fields journal.entries)
+body_lines (body.Refusal steps) = section_lines (codes "steps") step_fields steps
 
 -- what is left out, the nodes and the roles
 abbrev pub lists_lines : Evidence → List Fields
@@ -92,7 +91,8 @@ lists_lines e =
     ++ section_lines (codes "roles") role_fields e.roles)
 
 abbrev pub evidence_lines : Evidence → List Fields
-evidence_lines e = version_fields ∷ kind_fields e.kind ∷ (lists_lines e ++ body_lines e.body)
+evidence_lines e =
+    version_fields ∷ kind_fields e.kind ∷ (lists_lines e ++ (body_lines e.body ++ end_fields ∷ []))
 
 -- the text of evidence
 unfoldable pub evidence_text : Evidence → List ℕ

@@ -3,7 +3,7 @@
 ghost use Rattle.std.specs.Prelude.{◌≡◌, ◌++◌, ℕ, List, Option, None, IfOk, OnOk};
 ghost use Rattle.std.specs.Option.{option_copied};
 ghost use Rattle.line_fields.specs.Lines.{line};
-ghost use Rattle.evidence_text.specs.ghost use Rattle.evidence_text.specs.Reading.{entries, Gives};
+ghost use Rattle.evidence_text.specs.Reading.{entries, Gives};
 
 use crate::EvidenceFault;
 use line_fields::{Cursor, Fields};

@@ -187,22 +187,18 @@ fn put_body(text: &mut Bytes, body: &Body) -> Result<(), AllocError>
         } => {
             put_rows(text, removed.as_slice())?;
             put_model(text, model)?;
-            put_section(text, b"journal", journal.as_slice())?;
-            put_word(text, b"end")
+            put_section(text, b"journal", journal.as_slice())
         }
-        Body::Refusal { steps } => {
-            put_section(text, b"steps", steps.as_slice())?;
-            put_word(text, b"end")
-        }
+        Body::Refusal { steps } => put_section(text, b"steps", steps.as_slice()),
     }
 }
 
-#[tactic(auto, using(crate::proofs::WriteLaws::line_more, crate::proofs::WriteLaws::lines_more))]
-fn put_head(text: &mut Bytes, evidence: &Evidence) -> Result<(), AllocError>
-    ensures { OnOk result (text.new ≡ text.old ++ text_of (version_fields ∷ kind_fields evidence.now.kind ∷ [])) }
+fn put_head(text: &mut Bytes, kind: Kind) -> Result<(), AllocError>
+    ensures { OnOk result
+        (text.new ≡ (text.old ++ line version_fields) ++ line (kind_fields kind)) }
 {
     text.append(b"alod evidence 1\n")?;
-    put_kind(text, evidence.kind)
+    put_kind(text, kind)
 }
 
 #[tactic(auto, using(crate::proofs::WriteLaws::line_more, crate::proofs::WriteLaws::lines_more))]
@@ -216,14 +212,14 @@ fn put_lists(text: &mut Bytes, evidence: &Evidence) -> Result<(), AllocError>
 
 /// Writes evidence. It has to have a text: kind and body agree, each entry has a line, and lists
 /// are in their order.
-#[tactic(auto, using(crate::proofs::WriteLaws::lines_more), unfolding(crate::specs::EvidenceText::evidence_text))]
 pub fn write_evidence(alloc: Global, evidence: &Evidence) -> Result<Bytes, AllocError>
     requires { HasText evidence.now }
     ensures { IfOk result (λ text. text ≡ evidence_text evidence.now) }
 {
     let mut text = Bytes::new(alloc);
-    put_head(&mut text, evidence)?;
+    put_head(&mut text, evidence.kind)?;
     put_lists(&mut text, evidence)?;
     put_body(&mut text, &evidence.body)?;
+    put_word(&mut text, b"end")?;
     Ok(text)
 }
