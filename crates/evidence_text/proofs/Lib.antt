@@ -5,3 +5,4 @@ pub mod WholeLaws
 pub mod RowLaws
 pub mod WriteLaws
 pub mod BodyLaws
+pub mod TextLaws

@@ -7,6 +7,8 @@ mod laws;
 mod numbers;
 mod pieces;
 mod put;
+#[cfg(test)]
+mod tests;
 
 pub use cursor::Cursor;
 pub use fields::Fields;
