@@ -17,7 +17,7 @@ pub element_more : (front : List ℕ) (before : Option ℕ) (fields : Fields) (f
     → with_front front (elements_in before fields) ≡ all → with_front (front ++ x ∷ []) (elements_in (Some x) rest) ≡ all
 element_more front before fields field rest x all parts number follows so_far =
     let one : with_front front (elements_in before fields) ≡ with_front (front ++ x ∷ []) (elements_in (Some x) rest) =
-        rw (parts, ← number, ← follows) (onto_front front x (elements_in (Some x) rest)) in
+    rw (parts, ← number, ← follows) (onto_front front x (elements_in (Some x) rest)) in
     sym one ∙ so_far
 
 -- no element, or one that does not follow
@@ -47,8 +47,10 @@ pairs_by before field (next ∷ rest) = by (short_number field) (short_number ne
   where
     made : ℕ → ℕ → Option ((ℕ × ℕ) × Fields)
     made a b = Some ((a, b), rest)
+
     later : (ℕ × ℕ) × Fields → Option (List (ℕ × ℕ))
     later p = if_follows (pair_follows before p.0) (onto p.0 (pairs_in (Some p.0) p.1))
+
     by : (a b : Option ℕ) → (a >>= λ a. b >>= λ b. later ((a, b), rest)) ≡ ((a >>= λ a. b >>= λ b. made a b) >>= later)
     by None b = refl
     by (Some a) None = refl
@@ -59,7 +61,7 @@ pub pair_more : (front : List (ℕ × ℕ)) (before : Option (ℕ × ℕ)) (fiel
     → with_front front (pairs_in before fields) ≡ all → with_front (front ++ p ∷ []) (pairs_in (Some p) rest) ≡ all
 pair_more front before fields field after rest p all parts pair follows so_far =
     let one : with_front front (pairs_in before fields) ≡ with_front (front ++ p ∷ []) (pairs_in (Some p) rest) =
-        rw (parts, pairs_by before field after, ← pair, ← follows) (onto_front front p (pairs_in (Some p) rest)) in
+    rw (parts, pairs_by before field after, ← pair, ← follows) (onto_front front p (pairs_in (Some p) rest)) in
     sym one ∙ so_far
 
 pub no_pair : (front : List (ℕ × ℕ)) (before : Option (ℕ × ℕ)) (fields : Fields) (field : List ℕ) (after : Fields) (all : Option (List (ℕ × ℕ)))

@@ -23,7 +23,7 @@ take_takes law worker below rest found e =
     let q = bound (short_in rest) (λ q. Some (Take worker q.0, q.1)) found e in
     let rank = short_takes law rest q.found q.is in
     taken event_fields AreEventNumbers (decimal worker ∷ codes "take" ∷ rest) (Take worker q.found.0, q.found.1) found q.later
-        (ap (λ r. decimal worker ∷ codes "take" ∷ r) rank.whole) (below, rank.fits)
+    (ap (λ r. decimal worker ∷ codes "take" ∷ r) rank.whole) (below, rank.fits)
 
 no_takes : NumberLaw → (worker : ℕ) → worker < 2 ^ 32 → (rest : Fields) (found : Event × Fields) → no_in worker rest ≡ Some found → TakesEvent (decimal worker ∷ codes "no" ∷ rest) found
 no_takes law worker below rest found e =
@@ -32,7 +32,7 @@ no_takes law worker below rest found e =
     let rank = short_takes law rest q.found q.is in
     let seen = short_takes law q.found.1 v.found v.is in
     taken event_fields AreEventNumbers (decimal worker ∷ codes "no" ∷ rest) (No worker q.found.0 v.found.0, v.found.1) found v.later
-        (ap (λ r. decimal worker ∷ codes "no" ∷ r) (rank.whole ∙ ap (λ r. decimal q.found.0 ∷ r) seen.whole)) (below, rank.fits, seen.fits)
+    (ap (λ r. decimal worker ∷ codes "no" ∷ r) (rank.whole ∙ ap (λ r. decimal q.found.0 ∷ r) seen.whole)) (below, rank.fits, seen.fits)
 
 yes_takes : NumberLaw → (worker : ℕ) → worker < 2 ^ 32 → (rest : Fields) (found : Event × Fields) → yes_in worker rest ≡ Some found → TakesEvent (decimal worker ∷ codes "yes" ∷ rest) found
 yes_takes law worker below rest found e =
@@ -41,7 +41,7 @@ yes_takes law worker below rest found e =
     let rank = short_takes law rest q.found q.is in
     let seen = short_takes law q.found.1 v.found v.is in
     taken event_fields AreEventNumbers (decimal worker ∷ codes "yes" ∷ rest) (Yes worker q.found.0 v.found.0, v.found.1) found v.later
-        (ap (λ r. decimal worker ∷ codes "yes" ∷ r) (rank.whole ∙ ap (λ r. decimal q.found.0 ∷ r) seen.whole)) (below, rank.fits, seen.fits)
+    (ap (λ r. decimal worker ∷ codes "yes" ∷ r) (rank.whole ∙ ap (λ r. decimal q.found.0 ∷ r) seen.whole)) (below, rank.fits, seen.fits)
 
 block_takes : NumberLaw → (worker : ℕ) → worker < 2 ^ 32 → (rest : Fields) (found : Event × Fields) → block_in worker rest ≡ Some found → TakesEvent (decimal worker ∷ codes "block" ∷ rest) found
 block_takes law worker below rest found e =
@@ -52,8 +52,8 @@ block_takes law worker below rest found e =
     let count = short_takes law q.found.1 n.found n.is in
     let seen = short_takes law n.found.1 v.found v.is in
     taken event_fields AreEventNumbers (decimal worker ∷ codes "block" ∷ rest) (Block worker q.found.0 n.found.0 v.found.0, v.found.1) found v.later
-        (ap (λ r. decimal worker ∷ codes "block" ∷ r) (rank.whole ∙ ap (λ r. decimal q.found.0 ∷ r) (count.whole ∙ ap (λ r. decimal n.found.0 ∷ r) seen.whole)))
-        (below, rank.fits, count.fits, seen.fits)
+    (ap (λ r. decimal worker ∷ codes "block" ∷ r) (rank.whole ∙ ap (λ r. decimal q.found.0 ∷ r) (count.whole ∙ ap (λ r. decimal n.found.0 ∷ r) seen.whole)))
+    (below, rank.fits, count.fits, seen.fits)
 
 verb_takes : NumberLaw → (worker : ℕ) → worker < 2 ^ 32 → (fields : Fields) (found : Event × Fields) → verb_in worker fields ≡ Some found → TakesEvent (decimal worker ∷ fields) found
 verb_takes law worker below [] found e = none_is found e
@@ -74,11 +74,11 @@ verb_takes law worker below (word ∷ rest) found e =
             | inr n ↦ elim (word_case word (codes "block") (block_in worker rest) None found n) [
               | inl i ↦ subst P (sym i.0) (block_takes law worker below rest found i.1)
               | inr i ↦ none_is found i
-              ]
             ]
           ]
         ]
       ]
+    ]
 
 event_takes : NumberLaw → (fields : Fields) (found : Event × Fields) → event_in fields ≡ Some found → TakesEvent fields found
 event_takes law fields found e =
@@ -104,7 +104,7 @@ seen_is law rest reply e =
     let t = if_case (is_end v.found.1) (Seen v.found.0) reply v.later in
     let seen = short_takes law rest v.found v.is in
     makes reply_fields AreReplyNumbers (codes "seen" ∷ rest) (Seen v.found.0) reply (ap (λ x. Some x) t.1)
-        (ap (λ r. codes "seen" ∷ r) (seen.whole ∙ ap (λ r. decimal v.found.0 ∷ r) (end_is v.found.1 t.0))) seen.fits
+    (ap (λ r. codes "seen" ∷ r) (seen.whole ∙ ap (λ r. decimal v.found.0 ∷ r) (end_is v.found.1 t.0))) seen.fits
 
 stale_is : NumberLaw → (rest : Fields) (reply : Reply) → stale_of rest ≡ Some reply → MakesReply (codes "stale" ∷ rest) reply
 stale_is law rest reply e =
@@ -112,7 +112,7 @@ stale_is law rest reply e =
     let t = if_case (is_end v.found.1) (Stale v.found.0) reply v.later in
     let kept = short_takes law rest v.found v.is in
     makes reply_fields AreReplyNumbers (codes "stale" ∷ rest) (Stale v.found.0) reply (ap (λ x. Some x) t.1)
-        (ap (λ r. codes "stale" ∷ r) (kept.whole ∙ ap (λ r. decimal v.found.0 ∷ r) (end_is v.found.1 t.0))) kept.fits
+    (ap (λ r. codes "stale" ∷ r) (kept.whole ∙ ap (λ r. decimal v.found.0 ∷ r) (end_is v.found.1 t.0))) kept.fits
 
 front_is : NumberLaw → (word : List ℕ) (rest : Fields) (reply : Reply) → front_of word rest ≡ Some reply → MakesReply (word ∷ rest) reply
 front_is law word rest reply e =
@@ -122,7 +122,7 @@ front_is law word rest reply e =
     let rank = law.short word q.found q.is in
     let seen = short_takes law rest v.found v.is in
     makes reply_fields AreReplyNumbers (word ∷ rest) (Front q.found v.found.0) reply (ap (λ x. Some x) t.1)
-        (ap (λ w. w ∷ rest) rank.0 ∙ ap (λ r. decimal q.found ∷ r) (seen.whole ∙ ap (λ r. decimal v.found.0 ∷ r) (end_is v.found.1 t.0))) (rank.1, seen.fits)
+    (ap (λ w. w ∷ rest) rank.0 ∙ ap (λ r. decimal q.found ∷ r) (seen.whole ∙ ap (λ r. decimal v.found.0 ∷ r) (end_is v.found.1 t.0))) (rank.1, seen.fits)
 
 -- the reply is one word
 abbrev IsWordReply : Reply → Type 0
@@ -138,7 +138,7 @@ first_reply_is (r ∷ rs) all word reply e =
     elim (word_case word (reply_word r) (Some r) (first_reply rs word) reply e) [
       | inl h ↦ let same = some_is r reply h.1 in (h.0 ∙ ap reply_word same, subst IsWordReply same all.0)
       | inr h ↦ first_reply_is rs all.1 word reply h
-      ]
+    ]
 
 words_are : AllWords word_replies
 words_are = ((refl, tt), ((refl, tt), ((refl, tt), ((refl, tt), ((refl, tt), ((refl, tt), ((refl, tt), tt)))))))
@@ -152,7 +152,7 @@ word_or_front_is law word rest reply e = by (first_reply word_replies word) refl
         let w = first_reply_is word_replies words_are word named t in
         let end = if_case (is_end rest) named reply e in
         makes reply_fields AreReplyNumbers (word ∷ rest) named reply (ap (λ x. Some x) end.1)
-            (ap (λ f. f ∷ rest) w.0 ∙ ap (λ r. reply_word named ∷ r) (end_is rest end.0) ∙ sym w.1.0) w.1.1
+        (ap (λ f. f ∷ rest) w.0 ∙ ap (λ r. reply_word named ∷ r) (end_is rest end.0) ∙ sym w.1.0) w.1.1
 
 reply_is : NumberLaw → (fields : Fields) (reply : Reply) → reply_of fields ≡ Some reply → MakesReply fields reply
 reply_is law [] reply e = none_is reply e
@@ -163,8 +163,8 @@ reply_is law (word ∷ rest) reply e =
       | inr h ↦ elim (word_case word (codes "stale") (stale_of rest) other reply h) [
         | inl k ↦ subst (λ w. MakesReply (w ∷ rest) reply) (sym k.0) (stale_is law rest reply k.1)
         | inr k ↦ word_or_front_is law word rest reply k
-        ]
       ]
+    ]
 
 -- a number is no word
 no_word : NumberLaw → (q : ℕ) (word : List ℕ) → q < 2 ^ 32 → short_number word ≡ None → bytes_eq (decimal q) word ≡ false
@@ -182,9 +182,19 @@ reply_again law (Seen seen) fits = rw (law.short_again seen fits) refl
 reply_again law Done fits = refl
 reply_again law (Front rank seen) fits =
     let lacks = λ (word : List ℕ) (none : short_number word ≡ None). no_word law rank word fits.0 none in
-    rw (lacks (codes "seen") refl, lacks (codes "stale") refl, lacks (codes "over") refl, lacks (codes "done") refl, lacks (codes "late") refl,
-        lacks (codes "marked") refl, lacks (codes "kept") refl, lacks (codes "far") refl, lacks (codes "noted") refl,
-        law.short_again rank fits.0, law.short_again seen fits.1) refl
+    rw (
+      lacks (codes "seen") refl,
+      lacks (codes "stale") refl,
+      lacks (codes "over") refl,
+      lacks (codes "done") refl,
+      lacks (codes "late") refl,
+      lacks (codes "marked") refl,
+      lacks (codes "kept") refl,
+      lacks (codes "far") refl,
+      lacks (codes "noted") refl,
+      law.short_again rank fits.0,
+      law.short_again seen fits.1,
+    ) refl
 reply_again law Late fits = refl
 reply_again law Marked fits = refl
 reply_again law (Stale kept) fits = rw (law.short_again kept fits) refl
@@ -207,8 +217,8 @@ entry_back law fields entry e =
     let event = event_takes law fields v.found v.is in
     let reply = reply_is law v.found.1 r.found r.is in
     makes entry_fields FitsEntry fields (record { event = v.found.0; reply = r.found }) entry (ap (λ x. Some x) t.1)
-        (event.whole ∙ ap (λ f. event_fields v.found.0 ++ f) reply.whole)
-        (record { line = t.0; numbers = record { event = event.fits; reply = reply.fits } })
+    (event.whole ∙ ap (λ f. event_fields v.found.0 ++ f) reply.whole)
+    (record { line = t.0; numbers = record { event = event.fits; reply = reply.fits } })
 
 pub entry_again : NumberLaw → (entry : Entry) → FitsEntry entry → entry_of (entry_fields entry) ≡ Some entry
 unfolding entry_of

@@ -42,8 +42,8 @@ elements_are law before (field ∷ rest) xs e =
     let number = law.short field b.found b.is in
     let later = elements_are law (Some b.found) rest o.others o.is in
     makes element_fields (FitsElements before) (field ∷ rest) (b.found ∷ o.others) xs (ap (λ x. Some x) o.all)
-        (ap (λ w. w ∷ rest) number.0 ∙ ap (λ r. decimal b.found ∷ r) later.whole)
-        (record { ascend = (f.0, later.fits.ascend); numbers = (number.1, later.fits.numbers) })
+    (ap (λ w. w ∷ rest) number.0 ∙ ap (λ r. decimal b.found ∷ r) later.whole)
+    (record { ascend = (f.0, later.fits.ascend); numbers = (number.1, later.fits.numbers) })
 
 elements_again : NumberLaw → (before : Option ℕ) (xs : List ℕ) → ElementsAscend before xs → AreElementNumbers xs → elements_in before (element_fields xs) ≡ Some xs
 elements_again law before [] ascend numbers = refl
@@ -124,8 +124,8 @@ pairs_are law before (field ∷ next ∷ rest) ps e =
     let other = law.short next b.found b.is in
     let later = pairs_are law (Some (a.found, b.found)) rest o.others o.is in
     makes pair_fields (FitsPairList before) (field ∷ next ∷ rest) ((a.found, b.found) ∷ o.others) ps (ap (λ x. Some x) o.all)
-        (ap (λ w. w ∷ next ∷ rest) one.0 ∙ ap (λ w. decimal a.found ∷ w ∷ rest) other.0 ∙ ap (λ r. decimal a.found ∷ decimal b.found ∷ r) later.whole)
-        (record { ascend = (f.0, later.fits.ascend); numbers = (one.1, other.1, later.fits.numbers) })
+    (ap (λ w. w ∷ next ∷ rest) one.0 ∙ ap (λ w. decimal a.found ∷ w ∷ rest) other.0 ∙ ap (λ r. decimal a.found ∷ decimal b.found ∷ r) later.whole)
+    (record { ascend = (f.0, later.fits.ascend); numbers = (one.1, other.1, later.fits.numbers) })
 
 pairs_again : NumberLaw → (before : Option (ℕ × ℕ)) (ps : List (ℕ × ℕ)) → PairsAscend before ps → ArePairNumbers ps → pairs_in before (pair_fields ps) ≡ Some ps
 pairs_again law before [] ascend numbers = refl

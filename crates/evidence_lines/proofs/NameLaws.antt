@@ -157,10 +157,10 @@ plain_is law word rest node e =
           | inr m ↦ elim (word_case word (codes "some") (some_of rest) None node m) [
             | inl n ↦ subst (λ w. MakesNode (w ∷ rest) node) (sym n.0) (some_node_is law rest node n.1)
             | inr n ↦ none_is node n
-            ]
           ]
         ]
       ]
+    ]
 
 pub node_back : NumberLaw → FrontLaw → (fields : Fields) (node : NodeLine) → node_of fields ≡ Some node → MakesNode fields node
 unfolding node_of
@@ -169,7 +169,7 @@ node_back law front (word ∷ rest) node e =
     elim (word_case word (codes "class") (class_of rest) (plain_by word rest) node e) [
       | inl h ↦ subst (λ w. MakesNode (w ∷ rest) node) (sym h.0) (class_is front rest node h.1)
       | inr h ↦ plain_is law word rest node h
-      ]
+    ]
 
 pub node_again : NumberLaw → FrontLaw → (node : NodeLine) → FitsNode node → node_of (node_fields node) ≡ Some node
 unfolding node_of
@@ -198,8 +198,8 @@ side_is word s e =
       | inr h ↦ elim (word_case word (codes "right") (Some side.Right) None s h) [
         | inl k ↦ k.0 ∙ ap side_word (some_is side.Right s k.1)
         | inr k ↦ none_is s k
-        ]
       ]
+    ]
 
 pub side_takes : (fields : Fields) (found : Side × Fields) → side_in fields ≡ Some found → Takes one_side (λ s. ⊤) fields found
 side_takes [] found e = none_is found e
@@ -224,7 +224,7 @@ part_is law rest role e =
     let side = side_takes rest s.found s.is in
     let two = two_are law s.found.1 i.found i.is in
     makes role_fields FitsRole (codes "part" ∷ rest) (Part s.found.0 i.found.0 i.found.1) role i.later
-        (ap (λ r. codes "part" ∷ r) (side.whole ∙ ap (λ r. side_word s.found.0 ∷ r) two.whole)) (record { line = tt; value = two.below })
+    (ap (λ r. codes "part" ∷ r) (side.whole ∙ ap (λ r. side_word s.found.0 ∷ r) two.whole)) (record { line = tt; value = two.below })
 
 pub role_back : NumberLaw → FrontLaw → (fields : Fields) (role : RoleLine) → role_of fields ≡ Some role → MakesRole fields role
 unfolding role_of
@@ -235,8 +235,8 @@ role_back law front (word ∷ rest) role e =
       | inr h ↦ elim (word_case word (codes "part") (part_of rest) None role h) [
         | inl k ↦ subst (λ w. MakesRole (w ∷ rest) role) (sym k.0) (part_is law rest role k.1)
         | inr k ↦ none_is role k
-        ]
       ]
+    ]
 
 pub role_again : NumberLaw → FrontLaw → (role : RoleLine) → FitsRole role → role_of (role_fields role) ≡ Some role
 unfolding role_of

@@ -39,8 +39,8 @@ omitted_back law heads fields o e =
     let tc = long_takes law l.found.1 c.found c.is in
     let th = head_takes heads c.found.1 h.found h.is in
     makes omitted_fields ArePlaceNumbers fields made o (ap (λ x. Some x) last.1)
-        (ts.whole ∙ ap (λ r. side_word s.found.0 ∷ r) (tl.whole ∙ ap (λ r. decimal l.found.0 ∷ r) (tc.whole ∙ ap (λ r. decimal c.found.0 ∷ r) (th.whole ∙ ap (λ r. name_of h.found.0 ∷ r) last.0))))
-        (record { line = tl.fits; column = tc.fits })
+    (ts.whole ∙ ap (λ r. side_word s.found.0 ∷ r) (tl.whole ∙ ap (λ r. decimal l.found.0 ∷ r) (tc.whole ∙ ap (λ r. decimal c.found.0 ∷ r) (th.whole ∙ ap (λ r. name_of h.found.0 ∷ r) last.0))))
+    (record { line = tl.fits; column = tc.fits })
 
 pub omitted_again : NumberLaw → HeadLaw → (o : SidedOmitted) → ArePlaceNumbers o → omitted_of (omitted_fields o) ≡ Some o
 unfolding omitted_of

@@ -95,11 +95,13 @@ some_fact (Link a r b) more e = absurd cc
 pub step_line : NumberLaw → (step : Step) → AreStepNumbers step → IsLine (step_fields step)
 step_line law step fits = record {
   some = some_fact step.fact (rule_word step.rule ∷ argument_fields step);
-  each = fields-append (fact_fields step.fact) (rule_word step.rule ∷ argument_fields step) (fact_plain law step.fact fits.fact)
-    (rule_plain step.rule, fields-append (premise_fields (names_first step.rule) step.first) (premise_fields (names_second step.rule) step.second ++ source_fields step.source)
-      (premise_plain law (names_first step.rule) step.first fits.first)
-      (fields-append (premise_fields (names_second step.rule) step.second) (source_fields step.source)
-        (premise_plain law (names_second step.rule) step.second fits.second) (source_plain law step.source fits.source)));
+  each = fields-append (fact_fields step.fact) (rule_word step.rule ∷ argument_fields step) (fact_plain law step.fact fits.fact) (
+    rule_plain step.rule,
+    fields-append (premise_fields (names_first step.rule) step.first) (premise_fields (names_second step.rule) step.second ++ source_fields step.source)
+        (premise_plain law (names_first step.rule) step.first fits.first)
+        (fields-append (premise_fields (names_second step.rule) step.second) (source_fields step.source)
+        (premise_plain law (names_second step.rule) step.second fits.second) (source_plain law step.source fits.source)),
+  );
 }
 
 -- ---- nodes and roles

@@ -29,7 +29,7 @@ six_parts : (text first word one two last : List ℕ)
 six_parts text first word one two last =
     seven_parts text first (32 ∷ word) one two last (10 ∷ [])
     ∙ sym (ap (λ t. text ++ t) (append_assoc first (32 ∷ (word ++ (one ++ (two ++ last)))) (10 ∷ [])
-        ∙ ap (λ t. first ++ (32 ∷ t)) (four_parts word one two last (10 ∷ []))))
+    ∙ ap (λ t. first ++ (32 ∷ t)) (four_parts word one two last (10 ∷ []))))
 
 fact_joined : (fact : Fact) (more : Fields) → joined (fact_fields fact ++ more) ≡ joined (fact_fields fact) ++ spaced more
 fact_joined (Sub a b) more = joined-append (codes "sub") (decimal a ∷ decimal b ∷ []) more
@@ -44,7 +44,7 @@ arguments_spaced step =
 -- the parts of a step's line
 pub step_parts : (step : Step) (text : List ℕ)
     → (((((text ++ joined (fact_fields step.fact)) ++ 32 ∷ rule_word step.rule) ++ spaced (premise_fields (names_first step.rule) step.first))
-        ++ spaced (premise_fields (names_second step.rule) step.second)) ++ spaced (source_fields step.source)) ++ 10 ∷ []
+    ++ spaced (premise_fields (names_second step.rule) step.second)) ++ spaced (source_fields step.source)) ++ 10 ∷ []
     ≡ text ++ line (step_fields step)
 step_parts step text =
     let first = joined (fact_fields step.fact) in

@@ -29,7 +29,7 @@ sub_takes law rest found e =
     let first = short_takes law rest a.found a.is in
     let second = short_takes law a.found.1 b.found b.is in
     taken fact_fields AreFactNumbers (codes "sub" ∷ rest) (Sub a.found.0 b.found.0, b.found.1) found b.later
-        (ap (λ r. codes "sub" ∷ r) (first.whole ∙ ap (λ r. decimal a.found.0 ∷ r) second.whole)) (first.fits, second.fits)
+    (ap (λ r. codes "sub" ∷ r) (first.whole ∙ ap (λ r. decimal a.found.0 ∷ r) second.whole)) (first.fits, second.fits)
 
 link_takes : NumberLaw → (rest : Fields) (found : Fact × Fields) → link_in rest ≡ Some found → TakesFact (codes "link" ∷ rest) found
 link_takes law rest found e =
@@ -40,8 +40,8 @@ link_takes law rest found e =
     let second = short_takes law a.found.1 r.found r.is in
     let third = short_takes law r.found.1 b.found b.is in
     taken fact_fields AreFactNumbers (codes "link" ∷ rest) (Link a.found.0 r.found.0 b.found.0, b.found.1) found b.later
-        (ap (λ t. codes "link" ∷ t) (first.whole ∙ ap (λ t. decimal a.found.0 ∷ t) (second.whole ∙ ap (λ t. decimal r.found.0 ∷ t) third.whole)))
-        (first.fits, second.fits, third.fits)
+    (ap (λ t. codes "link" ∷ t) (first.whole ∙ ap (λ t. decimal a.found.0 ∷ t) (second.whole ∙ ap (λ t. decimal r.found.0 ∷ t) third.whole)))
+    (first.fits, second.fits, third.fits)
 
 fact_takes : NumberLaw → (fields : Fields) (found : Fact × Fields) → fact_in fields ≡ Some found → TakesFact fields found
 fact_takes law [] found e = none_is found e
@@ -51,8 +51,8 @@ fact_takes law (word ∷ rest) found e =
       | inr h ↦ elim (word_case word (codes "link") (link_in rest) None found h) [
         | inl k ↦ subst (λ w. TakesFact (w ∷ rest) found) (sym k.0) (link_takes law rest found k.1)
         | inr k ↦ none_is found k
-        ]
       ]
+    ]
 
 fact_again : NumberLaw → (fact : Fact) (rest : Fields) → AreFactNumbers fact → fact_in (fact_fields fact ++ rest) ≡ Some (fact, rest)
 fact_again law (Sub a b) rest fits = rw (law.short_again a fits.0, law.short_again b fits.1) refl
@@ -82,7 +82,7 @@ first_rule_word (k ∷ rs) word r e =
     elim (word_case word (rule_word k) (Some k) (first_rule rs word) r e) [
       | inl h ↦ h.0 ∙ ap rule_word (some_is k r h.1)
       | inr h ↦ first_rule_word rs word r h
-      ]
+    ]
 
 or_else_is : {X P : Type 0} → (one other : Option X) (x : X) → (one ≡ Some x → P) → (other ≡ Some x → P) → or_else one other ≡ Some x → P
 or_else_is (Some y) other x first second e = first e
@@ -151,7 +151,7 @@ row_takes law rest found e =
     let second = short_takes law a.found.1 b.found b.is in
     let test = if_case (b.found.0 == 1 || b.found.0 == 2) (Row a.found.0 b.found.0, b.found.1) found b.later in
     taken source_fields (FitsSource true) (codes "row" ∷ rest) (Row a.found.0 b.found.0, b.found.1) found (ap (λ x. Some x) test.1)
-        (ap (λ r. codes "row" ∷ r) (first.whole ∙ ap (λ r. decimal a.found.0 ∷ r) second.whole)) (one_or_two b.found.0 test.0, (first.fits, second.fits))
+    (ap (λ r. codes "row" ∷ r) (first.whole ∙ ap (λ r. decimal a.found.0 ∷ r) second.whole)) (one_or_two b.found.0 test.0, (first.fits, second.fits))
 
 axiom_takes : NumberLaw → (fields : Fields) (found : Source × Fields) → axiom_in fields ≡ Some found → TakesSource true fields found
 axiom_takes law [] found e = none_is found e
@@ -164,9 +164,9 @@ axiom_takes law (word ∷ rest) found e =
         | inr k ↦ elim (word_case word (codes "row") (row_in rest) None found k) [
           | inl m ↦ subst (λ w. TakesSource true (w ∷ rest) found) (sym m.0) (row_takes law rest found m.1)
           | inr m ↦ none_is found m
-          ]
         ]
       ]
+    ]
 
 source_takes : NumberLaw → (named : Bool) (fields : Fields) (found : Source × Fields) → source_in named fields ≡ Some found → TakesSource named fields found
 source_takes law true fields found e = axiom_takes law fields found e
@@ -212,18 +212,20 @@ step_back law fields step e =
     let ts = source_takes law (names_axiom r.found.0) q.found.1 s.found s.is in
     let last : q.found.1 ≡ source_fields s.found.0 = ts.whole ∙ ap (λ t. source_fields s.found.0 ++ t) ended.0 ∙ append-nil (source_fields s.found.0) in
     makes step_fields FitsStep fields (record { first = p.found.0; second = q.found.0; fact = f.found.0; source = s.found.0; rule = r.found.0 }) step (ap (λ x. Some x) ended.1)
-        (tf.whole ∙ ap (λ t. fact_fields f.found.0 ++ t) (tr.whole ∙ ap (λ t. rule_word r.found.0 ∷ t)
-            (tp.whole ∙ ap (λ t. premise_fields (names_first r.found.0) p.found.0 ++ t) (tq.whole ∙ ap (λ t. premise_fields (names_second r.found.0) q.found.0 ++ t) last))))
-        (record {
-          line = record { first = tp.fits.0; second = tq.fits.0; source = ts.fits.0 };
-          numbers = record { first = tp.fits.1; second = tq.fits.1; fact = tf.fits; source = ts.fits.1 };
-        })
+    (tf.whole ∙ ap (λ t. fact_fields f.found.0 ++ t) (tr.whole ∙ ap (λ t. rule_word r.found.0 ∷ t)
+    (tp.whole ∙ ap (λ t. premise_fields (names_first r.found.0) p.found.0 ++ t) (tq.whole ∙ ap (λ t. premise_fields (names_second r.found.0) q.found.0 ++ t) last))))
+    (record {
+      line = record { first = tp.fits.0; second = tq.fits.0; source = ts.fits.0 };
+      numbers = record { first = tp.fits.1; second = tq.fits.1; fact = tf.fits; source = ts.fits.1 };
+    })
 
 pub step_again : NumberLaw → (step : Step) → FitsStep step → step_of (step_fields step) ≡ Some step
 unfolding step_of
 step_again law step fits =
-    rw (fact_again law step.fact (rule_word step.rule ∷ argument_fields step) fits.numbers.fact,
-        rule_found step.rule,
-        premise_again law (names_first step.rule) step.first (premise_fields (names_second step.rule) step.second ++ source_fields step.source) fits.line.first fits.numbers.first,
-        premise_again law (names_second step.rule) step.second (source_fields step.source) fits.line.second fits.numbers.second,
-        source_again law (names_axiom step.rule) step.source fits.line.source fits.numbers.source) refl
+    rw (
+      fact_again law step.fact (rule_word step.rule ∷ argument_fields step) fits.numbers.fact,
+      rule_found step.rule,
+      premise_again law (names_first step.rule) step.first (premise_fields (names_second step.rule) step.second ++ source_fields step.source) fits.line.first fits.numbers.first,
+      premise_again law (names_second step.rule) step.second (source_fields step.source) fits.line.second fits.numbers.second,
+      source_again law (names_axiom step.rule) step.source fits.line.source fits.numbers.source,
+    ) refl

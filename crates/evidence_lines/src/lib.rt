@@ -11,12 +11,12 @@ mod put_events;
 mod put_model;
 mod rules;
 mod steps;
+#[cfg(test)]
+mod tests;
 mod types;
 
 pub use events::entry_of;
-pub use laws::{
-    entry_lines, model_lines, node_lines, omitted_lines, role_lines, step_lines,
-};
+pub use laws::{entry_lines, model_lines, node_lines, omitted_lines, role_lines, step_lines};
 pub use model::{members_of, pairs_of};
 pub use names::{node_of, role_of, side_in};
 pub use omitted::{omitted_before, omitted_of};

@@ -97,10 +97,18 @@ fn plain_by(word: &[u8], fields: Fields<'_>) -> Option<NodeLine>
     ensures { result ≡ plain_by word.now fields.entry }
 {
     if word == b"top".as_slice() {
-        return if fields.is_end() { Some(NodeLine::Top) } else { None };
+        return if fields.is_end() {
+            Some(NodeLine::Top)
+        } else {
+            None
+        };
     }
     if word == b"bottom".as_slice() {
-        return if fields.is_end() { Some(NodeLine::Bottom) } else { None };
+        return if fields.is_end() {
+            Some(NodeLine::Bottom)
+        } else {
+            None
+        };
     }
     if word == b"and".as_slice() {
         let (first, second) = two_numbers(fields)?;

@@ -1,7 +1,6 @@
 //! Lines of steps.
 
 ghost use Rattle.std.specs.Prelude.{◌≡◌};
-
 ghost use Rattle.evidence_lines.specs.StepReading.{sub_in, link_in, fact_in, rule_in, premise_in, left_in, right_in, row_in, axiom_in, source_in, step_of};
 
 use crate::rules::{names_axiom, names_first, names_second, rule_named};

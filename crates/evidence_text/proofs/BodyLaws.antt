@@ -170,9 +170,9 @@ diagnosis_back laws at found e =
     let made : Body × At = (body.Diagnosis r.found.0 model (record { entries = j.found.0; room = 0 }), j.found.1) in
     let head : List Fields → List Fields = λ l. numbered (codes "model") z.found.0 ∷ l in
     let rest : r.found.1.lines ≡ head (C ++ (P ++ (J ++ R))) =
-        next.lines ∙ ap (λ f. f ∷ z.found.1.lines) size.0 ∙ ap head (classes.whole ∙ ap (λ l. C ++ l) (roles.whole ∙ ap (λ l. P ++ l) journal.whole)) in
+    next.lines ∙ ap (λ f. f ∷ z.found.1.lines) size.0 ∙ ap head (classes.whole ∙ ap (λ l. C ++ l) (roles.whole ∙ ap (λ l. P ++ l) journal.whole)) in
     let whole : at.lines ≡ body_lines made.0 ++ R =
-        rows.whole ∙ ap (λ l. rows_lines r.found.0 ++ l) (rest ∙ ap head (sym (four_parts C P J R))) ∙ sym (append_assoc (rows_lines r.found.0) (head ((C ++ P) ++ J)) R) in
+    rows.whole ∙ ap (λ l. rows_lines r.found.0 ++ l) (rest ∙ ap head (sym (four_parts C P J R))) ∙ sym (append_assoc (rows_lines r.found.0) (head ((C ++ P) ++ J)) R) in
     subst (λ f. IsBody kind.Diagnosis at.lines f) (ok_is made found j.later) (record {
       whole = whole;
       has = (rows_order r.found.0 rows.fit, rows_steps None r.found.0 rows.fit, class_parts.0, role_parts.0, entries.0);
@@ -183,7 +183,7 @@ diagnosis_back laws at found e =
 diagnosis_again : LineLaws → (removed : List Removed) (model : Interp) (list : List Entry) (room read : ℕ) (rest : List Fields)
     → HasBodyText kind.Diagnosis (body.Diagnosis removed model (record { entries = list; room = room })) → AreBodyNumbers (body.Diagnosis removed model (record { entries = list; room = room }))
     → Again (diagnosis (record { read = read; lines = body_lines (body.Diagnosis removed model (record { entries = list; room = room })) ++ rest }))
-        (body.Diagnosis removed model (record { entries = list; room = 0 })) rest
+    (body.Diagnosis removed model (record { entries = list; room = 0 })) rest
 unfolding diagnosis
 diagnosis_again laws removed model list room read rest has numbers =
     let C = lines_from class_fields 0 model.classes in
@@ -191,24 +191,24 @@ diagnosis_again laws removed model list room read rest has numbers =
     let J = section_lines (codes "journal") entry_fields list in
     let head : List Fields → List Fields = λ l. numbered (codes "model") model.size ∷ l in
     let regrouped : (rows_lines removed ++ head ((C ++ P) ++ J)) ++ rest ≡ rows_lines removed ++ head (C ++ (P ++ (J ++ rest))) =
-        append_assoc (rows_lines removed) (head ((C ++ P) ++ J)) rest ∙ ap (λ l. rows_lines removed ++ head l) (four_parts C P J rest) in
+    append_assoc (rows_lines removed) (head ((C ++ P) ++ J)) rest ∙ ap (λ l. rows_lines removed ++ head l) (four_parts C P J rest) in
     let rows = removed_again laws removed read (head (C ++ (P ++ (J ++ rest)))) numbers.0 (rows_fit removed has.0 has.1 numbers.1) in
     let size = next_again size_of (Length rows.read) rows.read (numbered (codes "model") model.size) (C ++ (P ++ (J ++ rest))) model.size (size_again laws.number model.size numbers.2.size) in
     let classes = run_again members_of class_fields FitsClass (class_form laws) 0 (rows.read + 1) model.classes (P ++ (J ++ rest))
-        (to_parts HasClassLine AreElementNumbers 0 model.classes has.2 numbers.2.classes) (no_members model.roles (length list) (map entry_fields list ++ rest)) in
+    (to_parts HasClassLine AreElementNumbers 0 model.classes has.2 numbers.2.classes) (no_members model.roles (length list) (map entry_fields list ++ rest)) in
     let roles = run_again pairs_of property_fields FitsProperty (property_form laws) 0 classes.read model.roles (J ++ rest)
-        (to_parts HasPropertyLine ArePairNumbers 0 model.roles has.3 numbers.2.roles) (no_pairs (length list) (map entry_fields list ++ rest)) in
+    (to_parts HasPropertyLine ArePairNumbers 0 model.roles has.3 numbers.2.roles) (no_pairs (length list) (map entry_fields list ++ rest)) in
     let journal = section_again laws.number (any_order entry_of) entry_fields (FitsAny HasEntryLine AreEntryNumbers) (any_form entry_of entry_fields HasEntryLine AreEntryNumbers laws.entries)
-        (codes "journal") list roles.read rest numbers.3 (any_fit HasEntryLine AreEntryNumbers None list has.4 numbers.4) in
+    (codes "journal") list roles.read rest numbers.3 (any_fit HasEntryLine AreEntryNumbers None list has.4 numbers.4) in
     let start : List Fields → At = λ l. record { read = read; lines = l } in
     record {
       read = journal.read;
       is = ap (λ l. removed_rows (start l) >>= λ removed. first_line size_of removed.1 >>= λ size. with_classes removed.0 size.0 (run_at members_of size.1)) regrouped
-        ∙ ap (λ r. r >>= λ removed. first_line size_of removed.1 >>= λ size. with_classes removed.0 size.0 (run_at members_of size.1)) rows.is
-        ∙ ap (λ r. r >>= λ size. with_classes removed size.0 (run_at members_of size.1)) size
-        ∙ ap (λ c. with_classes removed model.size c) classes.is
-        ∙ ap (λ p. with_roles removed model.size model.classes p) roles.is
-        ∙ ap (λ r. r >>= λ journal. Ok (body.Diagnosis removed model (record { entries = journal.0; room = 0 }), journal.1)) journal.is;
+          ∙ ap (λ r. r >>= λ removed. first_line size_of removed.1 >>= λ size. with_classes removed.0 size.0 (run_at members_of size.1)) rows.is
+          ∙ ap (λ r. r >>= λ size. with_classes removed size.0 (run_at members_of size.1)) size
+          ∙ ap (λ c. with_classes removed model.size c) classes.is
+          ∙ ap (λ p. with_roles removed model.size model.classes p) roles.is
+          ∙ ap (λ r. r >>= λ journal. Ok (body.Diagnosis removed model (record { entries = journal.0; room = 0 }), journal.1)) journal.is;
     }
 
 refusal_back : LineLaws → (p : Part) (at : At) (found : Body × At) → refusal at ≡ Ok found → IsBody (kind.Refusal p) at.lines found
@@ -229,7 +229,7 @@ refusal_again : LineLaws → (p : Part) (steps : List Step) (read : ℕ) (rest :
 unfolding refusal
 refusal_again laws p steps read rest has numbers =
     let list = section_again laws.number (any_order step_of) step_fields (FitsAny HasStepLine AreStepNumbers) (any_form step_of step_fields HasStepLine AreStepNumbers laws.steps)
-        (codes "steps") steps read rest numbers.0 (any_fit HasStepLine AreStepNumbers None steps has numbers.1) in
+    (codes "steps") steps read rest numbers.0 (any_fit HasStepLine AreStepNumbers None steps has numbers.1) in
     record { read = list.read; is = ap (λ r. r >>= λ steps. Ok (body.Refusal steps.0, steps.1)) list.is }
 
 pub body_again : LineLaws → (k : Kind) (b : Body) (read : ℕ) (rest : List Fields) → HasBodyText k b → AreBodyNumbers b

@@ -35,7 +35,7 @@ goes_on form front first count at next fields x total more lines read is so_far 
     let after : At = record { read = at.read + 1; lines = next.lines } in
     let place : after ≡ next = ap (λ n. record next { read = n }) (sym read) in
     let one : with_front front (entries form first (count - length front) (last_of front) at) ≡ with_front (front ++ x ∷ []) (entries form first n (Some x) next) =
-        rw (k, lines, ← is, place) (regroup front x (entries form first n (Some x) next)) in
+    rw (k, lines, ← is, place) (regroup front x (entries form first n (Some x) next)) in
     rw last (sym one ∙ so_far)
 
 -- the text ends

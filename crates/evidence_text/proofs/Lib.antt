@@ -6,3 +6,6 @@ pub mod RowLaws
 pub mod WriteLaws
 pub mod BodyLaws
 pub mod TextLaws
+pub mod FormLaws
+pub mod BytesLaws
+pub mod FoundLaws

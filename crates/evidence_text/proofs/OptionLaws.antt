@@ -125,9 +125,9 @@ part_is word p e =
         | inr k ↦ elim (word_case word (codes "both") (Some part.Both) None p k) [
           | inl m ↦ m.0 ∙ ap part_word (some_is part.Both p m.1)
           | inr m ↦ none_is p m
-          ]
         ]
       ]
+    ]
 
 refusal_is : (fields : Fields) (k : Kind) → refusal_of fields ≡ Some k → codes "refusal" ∷ fields ≡ kind_fields k
 refusal_is [] k e = none_is k e
@@ -145,8 +145,8 @@ kind_is (word ∷ rest) k e =
       | inr h ↦ elim (word_case word (codes "refusal") (refusal_of rest) None k h) [
         | inl m ↦ ap (λ w. w ∷ rest) m.0 ∙ refusal_is rest k m.1
         | inr m ↦ none_is k m
-        ]
       ]
+    ]
 
 pub kind_again : (k : Kind) → kind_of (kind_fields k) ≡ Some k
 kind_again kind.Diagnosis = refl
@@ -164,7 +164,7 @@ version_is fields u e =
     let c = bound (after_word (codes "1") b.found) (λ rest. if_end rest tt) u b.later in
     let last = if_end_is c.found tt u c.later in
     after_word_is (codes "alod") fields a.found a.is ∙ ap (λ r. codes "alod" ∷ r) (after_word_is (codes "evidence") a.found b.found b.is
-        ∙ ap (λ r. codes "evidence" ∷ r) (after_word_is (codes "1") b.found c.found c.is ∙ ap (λ r. codes "1" ∷ r) last.0))
+    ∙ ap (λ r. codes "evidence" ∷ r) (after_word_is (codes "1") b.found c.found c.is ∙ ap (λ r. codes "1" ∷ r) last.0))
 
 pub end_line_is : (fields : Fields) (u : Unit {0}) → end_of fields ≡ Some u → fields ≡ end_fields
 end_line_is fields u e =

@@ -26,14 +26,14 @@ pub row_goes_on : (front : Rows) (first count : ℕ) (before : Option ℕ) (at a
     → entries (any_order step_of) first steps None after ≡ Ok (list, next)
     → with_front front (rows first (count - length front) before at) ≡ total
     → let r : Removed = record { row = row; steps = list } in
-      with_front (front ++ r ∷ []) (rows first (count - length (front ++ r ∷ [])) (Some row) next) ≡ total
+    with_front (front ++ r ∷ []) (rows first (count - length (front ++ r ∷ [])) (Some row) next) ≡ total
 unfolding rows
 row_goes_on front first count before at after next row steps list total more head read so_far =
     let r : Removed = record { row = row; steps = list } in
     let k : count - length front ≡ suc (count - length (front ++ r ∷ [])) = omega (arith, length-append front (r ∷ [])) in
     let n = count - length (front ++ r ∷ []) in
     let one : with_front front (rows first (count - length front) before at) ≡ with_front (front ++ r ∷ []) (rows first n (Some row) next) =
-        rw (k, head, read) (regroup front r (rows first n (Some row) next)) in
+    rw (k, head, read) (regroup front r (rows first n (Some row) next)) in
     sym one ∙ so_far
 
 fails_at : (fault : EvidenceFault) {A B : Type 0} (part : Result A EvidenceFault) (total : Result B EvidenceFault)

@@ -46,8 +46,8 @@ ordered_is before (Some p) o e = by (may_follow before p) refl e
 pub omitted_form : LineLaws → IsForm ordered_omitted omitted_fields FitsOmitted
 omitted_form laws = record {
   back = λ before fields o e.
-    let is = ordered_is before (omitted_of fields) o e in
-    let b = laws.omitted.back fields o is.0 in (b.0, (is.1, b.2));
+      let is = ordered_is before (omitted_of fields) o e in
+      let b = laws.omitted.back fields o is.0 in (b.0, (is.1, b.2));
   again = λ before o fits. ap (λ f. if_follows before f) (laws.omitted.again o tt fits.1) ∙ ap (λ b. cond b (Some o) None) fits.0;
   line = λ before o fits. laws.omitted.line o tt fits.1;
 }
@@ -177,17 +177,22 @@ lines_back laws at e eq =
     let R = section_lines (codes "roles") role_fields r.found.0 in
     let B = body_lines b.found.0 ++ end_fields ∷ [] in
     let rest : k.found.1.lines ≡ O o.found.0 ++ (N ++ (R ++ B)) =
-        os.whole ∙ ap (λ l. O o.found.0 ++ l) (ns.whole ∙ ap (λ l. N ++ l) (rs.whole ∙ ap (λ l. R ++ l) (bs.whole ∙ ap (λ l. body_lines b.found.0 ++ l) end.whole))) in
+    os.whole ∙ ap (λ l. O o.found.0 ++ l) (ns.whole ∙ ap (λ l. N ++ l) (rs.whole ∙ ap (λ l. R ++ l) (bs.whole ∙ ap (λ l. body_lines b.found.0 ++ l) end.whole))) in
     let whole : at.lines ≡ evidence_lines made =
-        vn.lines ∙ ap (λ f. f ∷ v.found.1.lines) (version_is vn.fields v.found.0 vn.is)
-        ∙ ap (λ l. version_fields ∷ l) (kn.lines ∙ ap (λ f. f ∷ k.found.1.lines) (kind_is kn.fields k.found.0 kn.is)
-            ∙ ap (λ l. kind_fields k.found.0 ∷ l) (rest ∙ sym (lists_parts (O o.found.0) N R B) ∙ ap (λ l. (O l ++ (N ++ R)) ++ B) (sym sides))) in
+    vn.lines ∙ ap (λ f. f ∷ v.found.1.lines) (version_is vn.fields v.found.0 vn.is)
+    ∙ ap (λ l. version_fields ∷ l) (kn.lines ∙ ap (λ f. f ∷ k.found.1.lines) (kind_is kn.fields k.found.0 kn.is)
+    ∙ ap (λ l. kind_fields k.found.0 ∷ l) (rest ∙ sym (lists_parts (O o.found.0) N R B) ∙ ap (λ l. (O l ++ (N ++ R)) ++ B) (sym sides))) in
     subst (λ x. IsWhole at.lines x) end.same (record {
       whole = whole;
       has = record { omitted = subst (λ l. InOrder omitted_before None l) (sym sides) order.0; nodes = nodes.0; roles = roles.0; body = bs.has };
       is = record {
-        omitted_count = subst (λ l. length l < 2 ^ 64) (sym sides) os.count; omitted = subst (λ l. AllByRecursion ArePlaceNumbers l) (sym sides) order.1;
-        nodes_count = ns.count; nodes = nodes.1; roles_count = rs.count; roles = roles.1; body = bs.numbers;
+        omitted_count = subst (λ l. length l < 2 ^ 64) (sym sides) os.count;
+        omitted = subst (λ l. AllByRecursion ArePlaceNumbers l) (sym sides) order.1;
+        nodes_count = ns.count;
+        nodes = nodes.1;
+        roles_count = rs.count;
+        roles = roles.1;
+        body = bs.numbers;
       };
       same = ap (λ x. record made { body = x }) bs.plain;
     })
@@ -204,11 +209,11 @@ lines_again laws e has is =
     let version = next_again version_of (Line 1) 0 version_fields (kind_fields e.kind ∷ (O ++ (N ++ (R ++ B)))) tt refl in
     let kind = next_again kind_of (Length 1) 1 (kind_fields e.kind) (O ++ (N ++ (R ++ B))) e.kind (kind_again e.kind) in
     let os = section_again laws.number ordered_omitted omitted_fields FitsOmitted (omitted_form laws) (codes "omitted") (omitted_list e.omitted) 2 (N ++ (R ++ B)) is.omitted_count
-        (omitted_fit None (omitted_list e.omitted) has.omitted is.omitted) in
+    (omitted_fit None (omitted_list e.omitted) has.omitted is.omitted) in
     let ns = section_again laws.number (any_order node_of) node_fields (FitsAny HasNodeLine IsNodeValue) (any_form node_of node_fields HasNodeLine IsNodeValue laws.nodes) (codes "nodes") e.nodes os.read (R ++ B) is.nodes_count
-        (any_fit HasNodeLine IsNodeValue None e.nodes has.nodes is.nodes) in
+    (any_fit HasNodeLine IsNodeValue None e.nodes has.nodes is.nodes) in
     let rs = section_again laws.number (any_order role_of) role_fields (FitsAny HasRoleLine IsRoleValue) (any_form role_of role_fields HasRoleLine IsRoleValue laws.roles) (codes "roles") e.roles ns.read B is.roles_count
-        (any_fit HasRoleLine IsRoleValue None e.roles has.roles is.roles) in
+    (any_fit HasRoleLine IsRoleValue None e.roles has.roles is.roles) in
     let bs = body_again laws e.kind e.body rs.read (end_fields ∷ []) has.body is.body in
     ap (λ l. next_line version_of (Line 1) (start l) >>= after_version) (lists_parts O N R B)
     ∙ ap (λ r. r >>= after_version) version

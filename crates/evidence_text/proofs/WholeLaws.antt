@@ -56,8 +56,8 @@ rows_back law steps first (suc count) before at found e =
     let r : Removed = record { row = h.found.0.0; steps = s.found.0 } in
     let same = ok_is (r ∷ m.found.0, m.found.1) found m.later in
     let own : at.lines ≡ removed_lines r ++ s.found.1.lines =
-        next.lines ∙ ap (λ f. f ∷ h.found.1.lines) head.whole ∙ ap (λ k. row_fields h.found.0.0 k ∷ h.found.1.lines) (sym list.count_is)
-        ∙ ap (λ l. row_fields r.row (length r.steps) ∷ l) list.whole in
+    next.lines ∙ ap (λ f. f ∷ h.found.1.lines) head.whole ∙ ap (λ k. row_fields h.found.0.0 k ∷ h.found.1.lines) (sym list.count_is)
+    ∙ ap (λ l. row_fields r.row (length r.steps) ∷ l) list.whole in
     subst (λ f. AreRows before (suc count) at.lines f) same (record {
       count_is = ap suc later.count_is;
       whole = own ∙ ap (λ l. removed_lines r ++ l) later.whole ∙ sym (append_assoc (removed_lines r) (flat_map removed_lines m.found.0) m.found.1.lines)
@@ -72,19 +72,19 @@ rows_again law steps first before [] read rest fit = record { read = read; is = 
 rows_again law steps first before (r ∷ rs) read rest fit =
     let others = flat_map removed_lines rs ++ rest in
     let regrouped : flat_map removed_lines (r ∷ rs) ++ rest ≡ removed_lines r ++ others =
-        ap (λ l. l ++ rest) (flat_map-cons removed_lines r rs) ∙ append_assoc (removed_lines r) (flat_map removed_lines rs) rest in
+    ap (λ l. l ++ rest) (flat_map-cons removed_lines r rs) ∙ append_assoc (removed_lines r) (flat_map removed_lines rs) rest in
     let head = next_again (row_of before) (Length first) read (row_fields r.row (length r.steps)) (map step_fields r.steps ++ others) (r.row, length r.steps)
-        (row_again law before r.row (length r.steps) fit.0.follows fit.0.numbers.row fit.0.numbers.count) in
+    (row_again law before r.row (length r.steps) fit.0.follows fit.0.numbers.row fit.0.numbers.count) in
     let list = entries_again (any_order step_of) step_fields (FitsAny HasStepLine AreStepNumbers) (any_form step_of step_fields HasStepLine AreStepNumbers steps)
-        first None r.steps (read + 1) others (any_fit HasStepLine AreStepNumbers None r.steps fit.0.has fit.0.numbers.steps) in
+    first None r.steps (read + 1) others (any_fit HasStepLine AreStepNumbers None r.steps fit.0.has fit.0.numbers.steps) in
     let later = rows_again law steps first (Some r.row) rs list.read rest fit.1 in
     let start : List Fields → At = λ l. record { read = read; lines = l } in
     record {
       read = later.read;
       is = ap (λ l. rows first (suc (length rs)) before (start l)) regrouped
-        ∙ ap (λ x. x >>= λ row. entries (any_order step_of) first row.0.1 None row.1 >>= λ list. rows first (length rs) (Some row.0.0) list.1 >>= λ more. Ok (record { row = row.0.0; steps = list.0 } ∷ more.0, more.1)) head
-        ∙ ap (λ x. x >>= λ list. rows first (length rs) (Some r.row) list.1 >>= λ more. Ok (record { row = r.row; steps = list.0 } ∷ more.0, more.1)) list.is
-        ∙ ap (λ x. x >>= λ more. Ok (r ∷ more.0, more.1)) later.is;
+          ∙ ap (λ x. x >>= λ row. entries (any_order step_of) first row.0.1 None row.1 >>= λ list. rows first (length rs) (Some row.0.0) list.1 >>= λ more. Ok (record { row = row.0.0; steps = list.0 } ∷ more.0, more.1)) head
+          ∙ ap (λ x. x >>= λ list. rows first (length rs) (Some r.row) list.1 >>= λ more. Ok (record { row = r.row; steps = list.0 } ∷ more.0, more.1)) list.is
+          ∙ ap (λ x. x >>= λ more. Ok (r ∷ more.0, more.1)) later.is;
     }
 
 -- ---- lines from a place on

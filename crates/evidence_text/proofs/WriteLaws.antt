@@ -42,7 +42,7 @@ pub whole_text : (version kind : Fields) (lists body : List Fields) (end : Field
 whole_text version kind lists body end =
     let last : text_of (end ∷ []) ≡ line end = flat_map-cons line end [] ∙ append-nil (line end) in
     let rest : text_of (lists ++ (body ++ end ∷ [])) ≡ text_of lists ++ (text_of body ++ line end) =
-        flat_map-append line lists (body ++ end ∷ []) ∙ ap (λ t. text_of lists ++ t) (flat_map-append line body (end ∷ []) ∙ ap (λ t. text_of body ++ t) last) in
+    flat_map-append line lists (body ++ end ∷ []) ∙ ap (λ t. text_of lists ++ t) (flat_map-append line body (end ∷ []) ∙ ap (λ t. text_of body ++ t) last) in
     five_parts (line version) (line kind) (text_of lists) (text_of body) (line end)
     ∙ ap (λ t. line version ++ (line kind ++ t)) (sym rest)
     ∙ ap (λ t. line version ++ t) (sym (flat_map-cons line kind (lists ++ (body ++ end ∷ []))))

@@ -172,5 +172,9 @@ plain_body (body.Refusal steps) = body.Refusal steps
 -- the evidence, apart from the room of its journal
 abbrev pub plain : Evidence → Evidence
 plain e = record {
-  kind = e.kind; omitted = e.omitted; nodes = e.nodes; roles = e.roles; body = plain_body e.body;
+  kind = e.kind;
+  omitted = e.omitted;
+  nodes = e.nodes;
+  roles = e.roles;
+  body = plain_body e.body;
 }

@@ -124,8 +124,11 @@ run_at form at = run_of form 0 at.read at.lines
 abbrev pub with_journal : List Removed → ℕ → List (List ℕ) → List (List (ℕ × ℕ)) → At → Read Body
 with_journal removed size classes roles at = do
   journal ← section (codes "journal") (any_order entry_of) at
-  Ok (body.Diagnosis removed (record { size = size; classes = classes; roles = roles })
-      (record { entries = journal.0; room = 0 }), journal.1)
+  Ok (
+    body.Diagnosis removed (record { size = size; classes = classes; roles = roles })
+        (record { entries = journal.0; room = 0 }),
+    journal.1,
+  )
 
 abbrev pub with_roles : List Removed → ℕ → List (List ℕ) → (List (List (ℕ × ℕ)) × At) → Read Body
 with_roles removed size classes roles = with_journal removed size classes roles.0 roles.1
@@ -166,7 +169,11 @@ lines_read at = do
   roles ← section (codes "roles") (any_order role_of) nodes.1
   body ← body_by kind.0 roles.1
   ended (record {
-    kind = kind.0; omitted = by_side omitted.0; nodes = nodes.0; roles = roles.0; body = body.0;
+    kind = kind.0;
+    omitted = by_side omitted.0;
+    nodes = nodes.0;
+    roles = roles.0;
+    body = body.0;
   }) body.1
 
 abbrev pub first_of : List (List ℕ) → List ℕ

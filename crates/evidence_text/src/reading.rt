@@ -6,16 +6,22 @@ ghost use Rattle.evidence_lines.specs.StepReading.{step_of};
 ghost use Rattle.evidence_lines.specs.Journal.{entry_of};
 ghost use Rattle.evidence_lines.specs.Model.{members_of, pairs_of};
 ghost use Rattle.evidence_text.specs.EvidenceText.{plain, plain_body, HasText, IsValue, evidence_text};
+ghost use Rattle.evidence_text.specs.declared.types.Evidence.{Evidence};
 ghost use Rattle.evidence_text.specs.FirstLines.{version_of, kind_of, count_of, size_of, row_of, end_of};
 ghost use Rattle.evidence_text.specs.Reading.{next_line, first_line, section, entries, any_order, by_side, rows, removed_rows, run_at, diagnosis, refusal, body_by, ended, lines_read, text_read, first_piece, no_more, Gives};
 
-use crate::first_lines::{count_of, is_last, is_other_version, is_version, kind_of, row_of, size_of};
+use crate::first_lines::{
+    count_of, is_last, is_other_version, is_version, kind_of, row_of, size_of,
+};
+use crate::laws::texts_are_what_is_read;
 use crate::sections::{LineEntry, entries};
 use crate::{Body, Evidence, EvidenceFault, Kind, Removed};
 use accuse_core::{Entries, Entry};
 use derivation::{Derivation, Step};
 use el_logic::{Interp, MemberLists, PairLists, Side};
-use evidence_lines::{NodeLine, NodeLines, RoleLine, RoleLines, SidedOmitted, members_of, pairs_of};
+use evidence_lines::{
+    NodeLine, NodeLines, RoleLine, RoleLines, SidedOmitted, members_of, pairs_of,
+};
 use line_fields::{Cursor, Fields, parted};
 use ofn_axiom::{OmittedList, SideOmitted};
 use std::alloc::{AllocError, Global};
@@ -134,10 +140,7 @@ fn removed_rows<'a>(
     rows(alloc, first, count, at)
 }
 
-fn classes<'a>(
-    alloc: Global,
-    cursor: Cursor<'a>,
-) -> Result<(MemberLists, Cursor<'a>), AllocError>
+fn classes<'a>(alloc: Global, cursor: Cursor<'a>) -> Result<(MemberLists, Cursor<'a>), AllocError>
     ensures { IfOk result (λ x. (x.0, x.1) ≡ run_at members_of cursor.entry) }
 {
     let mut classes = MemberLists::new(alloc);
@@ -154,10 +157,7 @@ fn classes<'a>(
     Ok((classes, at))
 }
 
-fn properties<'a>(
-    alloc: Global,
-    cursor: Cursor<'a>,
-) -> Result<(PairLists, Cursor<'a>), AllocError>
+fn properties<'a>(alloc: Global, cursor: Cursor<'a>) -> Result<(PairLists, Cursor<'a>), AllocError>
     ensures { IfOk result (λ x. (x.0, x.1) ≡ run_at pairs_of cursor.entry) }
 {
     let mut roles = PairLists::new(alloc);
@@ -186,10 +186,7 @@ fn journal_of(alloc: Global, list: &[Entry]) -> Result<Entries, AllocError>
 }
 
 #[tactic(auto, unfolding(crate::specs::Reading::diagnosis))]
-fn diagnosis<'a>(
-    alloc: Global,
-    cursor: Cursor<'a>,
-) -> Result<(Body, Cursor<'a>), EvidenceFault>
+fn diagnosis<'a>(alloc: Global, cursor: Cursor<'a>) -> Result<(Body, Cursor<'a>), EvidenceFault>
     ensures { Gives (λ x. (plain_body x.0, x.1)) result (diagnosis cursor.entry) }
 {
     let (removed, at) = removed_rows(alloc, cursor)?;
@@ -323,13 +320,23 @@ fn first_piece(text: &[u8]) -> &[u8]
     }
 }
 
-/// Reads evidence, or answers the first fault of the text.
 #[tactic(auto, unfolding(crate::specs::Reading::text_read))]
-pub fn read_evidence(alloc: Global, bytes: &[u8]) -> Result<Evidence, EvidenceFault>
+fn read(alloc: Global, bytes: &[u8]) -> Result<Evidence, EvidenceFault>
     ensures { Gives plain result (text_read bytes.now) }
 {
     if is_other_version(Fields::of(first_piece(bytes))) {
         return Err(EvidenceFault::Version);
     }
     lines_read(alloc, Cursor::new(bytes))
+}
+
+/// Reads evidence, or answers the first fault of the text.
+pub fn read_evidence(alloc: Global, bytes: &[u8]) -> Result<Evidence, EvidenceFault>
+    ensures exact { Gives plain result (text_read bytes.now) }
+    ensures found { IfOk result (λ e. HasText e × (bytes.now ≡ evidence_text e)) }
+    ensures only { (e : Evidence) → HasText e → IsValue e → bytes.now ≡ evidence_text e →
+        Gives plain result (Ok (plain e)) }
+{
+    texts_are_what_is_read();
+    read(alloc, bytes)
 }

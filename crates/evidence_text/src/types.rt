@@ -1,5 +1,8 @@
 //! Evidence, and why a text is none.
 
+ghost use Rattle.std.specs.Prelude.{◌≡◌};
+ghost use Rattle.evidence_text.specs.declared.types.EvidenceFault.TheVariants.{OutOfMemory};
+
 use accuse_core::Entries;
 use derivation::Derivation;
 use el_logic::{Interp, ListOf, Part};
@@ -7,9 +10,6 @@ use evidence_lines::{NodeLines, RoleLines};
 use ofn_axiom::SideOmitted;
 use std::alloc::{AllocError, AllocFailed};
 use thiserror::Error;
-
-ghost use Rattle.std.specs.Prelude.{◌≡◌};
-ghost use Rattle.evidence_text.specs.declared.types.EvidenceFault.TheVariants.{OutOfMemory};
 
 /// What evidence is for.
 #[derive(Clone, Copy, Debug, PartialEq, Eq)]

@@ -43,11 +43,7 @@ fn put_entries<X: LineEntry>(text: &mut Bytes, items: &[X]) -> Result<(), AllocE
 }
 
 #[tactic(auto, using(crate::proofs::WriteLaws::line_more))]
-fn put_section<X: LineEntry>(
-    text: &mut Bytes,
-    word: &[u8],
-    items: &[X],
-) -> Result<(), AllocError>
+fn put_section<X: LineEntry>(text: &mut Bytes, word: &[u8], items: &[X]) -> Result<(), AllocError>
     ensures { OnOk result (text.new ≡ text.old ++ text_of (section_lines word.now X.spell items.now)) }
 {
     put_numbered(text, word, items.len() as u64)?;

@@ -52,8 +52,8 @@ lines_again [] rest each = refl
 lines_again (fields ∷ lines) rest each =
     let later = text_of lines ++ rest in
     let regrouped : text_of (fields ∷ lines) ++ rest ≡ joined fields ++ (10 ∷ later) =
-        ap (λ text. text ++ rest) (flat_map-cons line fields lines) ∙ append_assoc (joined fields ++ 10 ∷ []) (text_of lines) rest
-        ∙ append_assoc (joined fields) (10 ∷ []) later in
+    ap (λ text. text ++ rest) (flat_map-cons line fields lines) ∙ append_assoc (joined fields ++ 10 ∷ []) (text_of lines) rest
+    ∙ append_assoc (joined fields) (10 ∷ []) later in
     let none = All-from_recursion (λ b. is_line_feed b ≡ false) (joined fields) (joined_no_feed fields each.0.each) in
     let split = slice_split_at is_line_feed (joined fields) 10 later none refl in
     ap lines_of regrouped ∙ first_line (joined fields ++ (10 ∷ later)) (joined fields) later split

@@ -68,6 +68,7 @@ long_back (b ∷ bs) n e = by (b == 48) refl e
     zero_is : (bs : List ℕ) → b ≡ 48 → after_zero bs ≡ Some n → IsSpelled (b ∷ bs) n (2 ^ 64)
     zero_is [] is e = let none : 0 ≡ n = cc in record { spelled = rw (is, ← none) (sym (decimal_digit 0 (omega arith))); below = omega arith }
     zero_is (c ∷ cs) is e = absurd cc
+
     by : (t : Bool) → (b == 48) ≡ t → cond t (after_zero bs) (digits_from (2 ^ 64) 0 (b ∷ bs)) ≡ Some n → IsSpelled (b ∷ bs) n (2 ^ 64)
     by true t e = zero_is bs (eqb-true _ _ t) e
     by false t e =
@@ -89,7 +90,7 @@ pub long_again : (n : ℕ) → n < 2 ^ 64 → long_number (decimal n) ≡ Some n
 long_again zero below = rw (decimal_digit 0 (omega arith)) refl
 long_again (suc n) below =
     digits_are_read (decimal (suc n)) (suc n) (digits_decimal own (suc n) below) (digits_value-decimal own (suc n) below) below
-        (decimal_nonempty (suc n) below) (first_decimal (suc n) (omega arith) below)
+    (decimal_nonempty (suc n) below) (first_decimal (suc n) (omega arith) below)
 
 short_is : (o : Option ℕ) (n : ℕ) → if_short o ≡ Some n → (o ≡ Some n) × (n < 2 ^ 32)
 short_is None n e = absurd cc

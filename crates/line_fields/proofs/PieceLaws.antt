@@ -3,7 +3,6 @@ use Rattle.std.proofs.Common.{◌≡◌, ℕ, ◌+◌, ◌-◌, ◌<◌, ◌≤�
 use Rattle.std.specs.List.{slice_split, position_or_len}
 use Rattle.std.proofs.lemmas.List.{length-drop, take_all}
 use Rattle.std.proofs.lemmas.List.Splits.{slice_split_first}
-
 use Rattle.line_fields.specs.Reading.{fields_of, lines_in, lines_of, is_end}
 
 -- a text that nothing parts is one piece
@@ -27,7 +26,7 @@ pub first_piece : (p : ℕ → Bool) (text : List ℕ) (place : ℕ) → place �
 first_piece p text place is within =
     let lt : position_or_len p text < length text = omega arith in
     let whole : take (length text - (place + 1)) (drop (place + 1) text) ≡ drop (place + 1) text =
-        take_all _ _ (omega (arith, length-drop (place + 1) text)) in
+    take_all _ _ (omega (arith, length-drop (place + 1) text)) in
     rw (whole, is) (slice_split_first p text 0 lt)
 
 -- there is a first piece

@@ -21,7 +21,7 @@ fn place_of(text: &[u8], part: u8) -> usize
 pub fn parted(text: &[u8], part: u8) -> Option<(&[u8], &[u8])>
     ensures pieces { let pieces = slice_split (λ b. b == part) in
         MatchOption result (pieces text.now ≡ text.now ∷ [])
-            (λ x. pieces text.now ≡ x.0.now ∷ pieces x.1.now) }
+        (λ x. pieces text.now ≡ x.0.now ∷ pieces x.1.now) }
     ensures shorter { IfSome result (λ x. length x.1.now < length text.now) }
 {
     let place = place_of(text, part);

@@ -61,6 +61,9 @@ fn writes_lines(rt: HostRuntime) -> Result<(), Fail> {
     put_field(&mut text, b"other")?;
     put_number(&mut text, 18446744073709551615)?;
     end_line(&mut text)?;
-    assert_eq!(rt; text.as_slice(), b"word other 18446744073709551615\n".as_slice());
+    assert_eq!(rt;
+        text.as_slice(),
+        b"word other 18446744073709551615\n".as_slice()
+    );
     Ok(())
 }

@@ -19,7 +19,7 @@ pub loop-alloc-preserved : goal.loop-alloc-preserved
 loop-alloc-preserved c =
     let more : length c.loop-alloc.removed.items < c.args.count = omega (arith, c.loop-alloc-test.true, c.len.ensures, c.loop-alloc.removed.ok) in
     rw (c.in_ok-push.ensures.items, c.from_vec-steps.ensures) (row_goes_on c.loop-alloc.removed.items c.args.first c.args.count c.loop-alloc.before c.loop-alloc.at c.in_ok-row.next c.in_ok-steps.next c.in_ok-row.row c.in_ok-row.steps c.in_ok-steps.steps.items _
-        more c.in_ok-row.ensures c.in_ok-steps.ensures c.loop-alloc.invariant)
+    more c.in_ok-row.ensures c.in_ok-steps.ensures c.loop-alloc.invariant)
 
 pub returns : goal.returns
 returns c =

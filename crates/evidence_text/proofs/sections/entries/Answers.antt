@@ -26,7 +26,7 @@ loop-alloc-preserved g c =
     let last : option_copied c.last.result ≡ last_of items = c.last.ensures.value ∙ ap (λ xs. slice_get xs (length xs - 1)) c.as_slice.ensures.value in
     let is : Some c.in-Some-2.item ≡ g.X.LineEntry.form (last_of items) c.in-Some.fields = sym c.in-Some-2.is ∙ c.in_ok-item.ensures ∙ ap (λ b. g.X.LineEntry.form b c.in-Some.fields) last in
     rw c.in_ok-push.ensures.items (goes_on g.X.LineEntry.form items c.args.first c.args.count c.loop-alloc.at c.in-Some.next c.in-Some.fields c.in-Some-2.item _
-        more c.in-Some.ensures.lines c.in-Some.ensures.read is c.loop-alloc.invariant)
+    more c.in-Some.ensures.lines c.in-Some.ensures.read is c.loop-alloc.invariant)
 
 pub returns : goal.returns
 returns g c =

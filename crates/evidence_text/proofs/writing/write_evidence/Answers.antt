@@ -10,6 +10,6 @@ returns c =
     let e = c.args.evidence.now in
     c.in_ok-put_word.ensures
     ∙ ap (λ t. t ++ line end_fields) (c.in_ok-put_body.ensures
-        ∙ ap (λ t. t ++ text_of (body_lines e.body)) (c.in_ok-put_lists.ensures
-            ∙ ap (λ t. t ++ text_of (lists_lines e)) (c.in_ok-put_head.ensures ∙ ap (λ t. (t ++ line version_fields) ++ line (kind_fields e.kind)) c.new-text.ensures)))
+    ∙ ap (λ t. t ++ text_of (body_lines e.body)) (c.in_ok-put_lists.ensures
+    ∙ ap (λ t. t ++ text_of (lists_lines e)) (c.in_ok-put_head.ensures ∙ ap (λ t. (t ++ line version_fields) ++ line (kind_fields e.kind)) c.new-text.ensures)))
     ∙ whole_text version_fields (kind_fields e.kind) (lists_lines e) (body_lines e.body) end_fields
