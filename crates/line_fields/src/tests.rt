@@ -41,12 +41,12 @@ fn count(fields: Fields<'_>) -> usize {
 #[test]
 fn reads_lines(rt: HostRuntime) {
     let mut cursor = Cursor::new(b"a bc\n\n d\r\nlast");
-    let mut number = 0;
+    let mut number = 0u64;
     for fields in [2, 1, 2, 0] {
         let Some((found, next)) = cursor.next() else {
             break;
         };
-        number += 1;
+        number = number.wrapping_add(1);
         assert_eq!(rt; count(found), fields);
         assert_eq!(rt; next.read(), number);
         cursor = next;
