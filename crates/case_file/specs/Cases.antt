@@ -1,5 +1,6 @@
 -- What a case has.
 use Rattle.std.specs.Prelude.{◌≡◌, ℕ, ◌+◌, ◌^◌, ◌<◌, ◌≤◌, List, [], map, length, slice_index_or, slice_index, All, Contains, ◌⊎◌, ⊤}
+use Rattle.std.specs.List.Sorted.{IsStrictlyIncreasing}
 use Rattle.el_logic.specs.declared.types.Expr.{Expr}
 use Rattle.el_logic.specs.declared.types.Expr.TheVariants as E
 use Rattle.el_logic.specs.declared.types.Axiom.{Axiom}
@@ -11,7 +12,8 @@ use Rattle.case_file.specs.declared.types.CaseInput.{CaseInput}
 use Rattle.el_rules.specs.Theories.{Theory}
 
 -- the store of both ontologies, their axioms, the axioms of the rows, and the index of the row with
--- each rank. `over` has the axioms over nodes of the row with each rank.
+-- each rank. `over` has the axioms over nodes of the row with each rank. `classes` and `properties`
+-- count the names.
 pub record CaseView : Type 0 where
   pub store : Numbered
   pub left : List Axiom
@@ -20,6 +22,7 @@ pub record CaseView : Type 0 where
   pub order : List ℕ
   pub over : List (List NodeAxiom)
   pub classes : ℕ
+  pub properties : ℕ
   pub excused : List ℕ
 
 -- an expression of a row, as a node
@@ -74,6 +77,7 @@ case_of input = record {
   order = input.order;
   over = rows_over input.rows input.order;
   classes = input.classes;
+  properties = input.roles;
   excused = [];
 }
 
@@ -85,7 +89,29 @@ abbrev pub IsMustHave : CaseView → ℕ → Type 0
 IsMustHave case node = (node ≡ 0)
     ⊎ ((class : ℕ) × (class < case.classes) × (node ≡ class + 2) × ¬ (Contains case.excused node))
 
+-- the ranks ascend, and are those of rows
+pub record AreRanksOf (case : CaseView) (ranks : List ℕ) : Type 0 where
+  pub ascending : IsStrictlyIncreasing ranks
+  pub below : All (λ rank. rank < length case.order) ranks
+
 -- the nodes are those of classes, in ascending order
 pub record IsExcuse (case : CaseView) (nodes : List ℕ) : Type 0 where
   pub ascending : (one other : ℕ) → one < other → other < length nodes → slice_index nodes one < slice_index nodes other
   pub classes : All (λ node. (2 ≤ node) × (node < case.classes + 2)) nodes
+
+-- what a case was made of
+abbrev pub input_of : CaseView → CaseInput
+input_of case = record {
+  left = case.left;
+  right = case.right;
+  rows = case.rows;
+  order = case.order;
+  classes = case.classes;
+  roles = case.properties;
+}
+
+-- the case was built, and then perhaps excuses some classes
+pub record IsCase (case : CaseView) : Type 0 where
+  pub given : IsCaseInput (input_of case)
+  pub built : case ≡ record (case_of (input_of case)) { excused = case.excused }
+  pub excuse : IsExcuse case case.excused

@@ -1,2 +1,3 @@
 pub mod Cases
+pub mod Incoherence
 pub mod Inside

@@ -54,6 +54,7 @@ pub fn build_case(
         order,
         over,
         classes,
+        properties: roles,
         excused: Numbers::new(alloc),
     })
 }

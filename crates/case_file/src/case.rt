@@ -1,7 +1,7 @@
 //! A case.
 
 ghost use Rattle.std.specs.Prelude.{◌≡◌, ◌<◌, Some, length, slice_get, slice_index, slice_index_or, []};
-ghost use Rattle.case_file.specs.Cases.{row_at, IsExcuse};
+ghost use Rattle.case_file.specs.Cases.{row_at, IsCase, IsExcuse};
 
 use crate::{AxiomLists, NodeAxiomLists};
 use concept_store::{NodeAxiom, Store};
@@ -19,12 +19,12 @@ pub struct Case {
     pub(crate) order: Numbers,
     pub(crate) over: NodeAxiomLists,
     pub(crate) classes: u32,
+    pub(crate) properties: u32,
     pub(crate) excused: Numbers,
 }
 
 impl Model for Case {
-    ghost use Rattle.std.specs.Prelude.{◌≡◌, ◌^◌, ◌<◌, length, All};
-    ghost use Rattle.case_file.specs.Cases.{CaseView};
+    ghost use Rattle.case_file.specs.Cases.{CaseView, IsCase};
     ghost use Rattle.case_file.specs.Inside.Codes.{case_code};
 
     ghost Value = { CaseView };
@@ -39,17 +39,29 @@ impl Model for Case {
       order = c.order;
       over = c.over;
       classes = c.classes;
+      properties = c.properties;
       excused = c.excused;
     } };
 
-    ghost invariant = { λ c. (length c.order < 2 ^ 31) × (length c.over ≡ length c.order)
-        × All (λ index. index < length c.rows) c.order };
+    ghost invariant = { λ c. IsCase (record {
+      store = c.store;
+      left = c.left;
+      right = c.right;
+      rows = c.rows;
+      order = c.order;
+      over = c.over;
+      classes = c.classes;
+      properties = c.properties;
+      excused = c.excused;
+    }) };
 }
 
 impl Case {
-    /// The nodes and roles of both ontologies, and their axioms over these.
+    /// The nodes and roles of both ontologies, and their axioms over these. That the case was built
+    /// is known from its type; this call says so.
     pub fn store(&self) -> &Store
-        ensures { result.now ≡ self.now.store }
+        ensures store { result.now ≡ self.now.store }
+        ensures case { IsCase self.now }
     {
         &self.store
     }
@@ -75,9 +87,17 @@ impl Case {
         self.classes
     }
 
+    /// How many property names there are.
+    pub fn properties(&self) -> u32
+        ensures { result ≡ self.now.properties }
+    {
+        self.properties
+    }
+
     /// How many rows there are.
     pub fn ranks(&self) -> u32
-        ensures { result ≡ length self.now.order }
+        ensures ranks { result ≡ length self.now.order }
+        ensures over { length self.now.over ≡ length self.now.order }
     {
         self.order.len() as u32
     }
@@ -123,6 +143,7 @@ impl Case {
             order,
             over,
             classes,
+            properties,
             excused: _,
         } = self;
         Case {
@@ -133,6 +154,7 @@ impl Case {
             order,
             over,
             classes,
+            properties,
             excused: nodes,
         }
     }

@@ -3,9 +3,14 @@
 
 mod build;
 mod case;
+mod laws;
 mod rows;
 mod types;
 
 pub use build::build_case;
 pub use case::Case;
+pub use laws::{
+    cases_have_nodes, excusing_none_is_incoherence, models_have_readings,
+    more_rows_stay_incoherent, rows_mean_the_same,
+};
 pub use types::{AxiomLists, CaseInput, NodeAxiomLists, NodeAxioms};

@@ -23,7 +23,8 @@ use Rattle.concept_store.specs.Reading.{MeansTheSameIn, IsReadingOf, HoldsIn}
 use Rattle.concept_store.specs.Roles.{parts_of, parts_in, roles_of, IsOver, AreOver}
 use Rattle.concept_store.specs.Inside.Numbering.{with_node, numbered_axioms, in_32_bits, AreNamesShort, AreAllShort, AreAxiomsShort}
 use Rattle.concept_store.proofs.TreeLaws.{at_place}
-use Rattle.concept_store.proofs.ForestLaws.{HasParts, IsForest}
+use Rattle.concept_store.proofs.ForestLaws.{HasPartsBefore, IsForest}
+use Rattle.concept_store.proofs.NumberingLaws.{place_of_name}
 use Rattle.concept_store.proofs.OverLaws.{HasAxioms, has_axioms_kept, all_over_kept, AreNumbered, axioms_are}
 use Rattle.concept_store.proofs.MeaningLaws.{means_the_same}
 
@@ -54,23 +55,43 @@ names_are classes = ap (λ (ns : List Node). Top ∷ Bottom ∷ ns) (along (rang
     along (k ∷ ks) = ap (λ (ns : List Node). Class k ∷ ns) (along ks)
 
 -- the names have no parts
-no_parts : (ks : List ℕ) (n : ℕ) (tree : Tree) (trees : List Tree) → slice_get (map name ks) n ≡ Some tree → HasParts trees tree
-no_parts [] n tree trees at = absurd (none-some tree at)
-no_parts (k ∷ ks) zero tree trees at = subst (HasParts trees) (same_Some (name k) tree at) tt
-no_parts (k ∷ ks) (suc n) tree trees at = no_parts ks n tree trees at
+no_parts : (ks : List ℕ) (n m : ℕ) (tree : Tree) (trees : List Tree) → slice_get (map name ks) n ≡ Some tree → HasPartsBefore trees m tree
+no_parts [] n m tree trees at = absurd (none-some tree at)
+no_parts (k ∷ ks) zero m tree trees at = subst (HasPartsBefore trees m) (same_Some (name k) tree at) tt
+no_parts (k ∷ ks) (suc n) m tree trees at = no_parts ks n m tree trees at
 
 -- so no name has a part that is missing
-names_have : (classes n : ℕ) (tree : Tree) → slice_get (names_of classes) n ≡ Some tree → HasParts (names_of classes) tree
-names_have classes zero tree at = subst (HasParts (names_of classes)) (same_Some thing tree at) tt
-names_have classes (suc zero) tree at = subst (HasParts (names_of classes)) (same_Some nothing tree at) tt
-names_have classes (suc (suc n)) tree at = no_parts (range_with_len 0 classes) n tree (names_of classes) at
+names_have : (classes n m : ℕ) (tree : Tree) → slice_get (names_of classes) n ≡ Some tree → HasPartsBefore (names_of classes) m tree
+names_have classes zero m tree at = subst (HasPartsBefore (names_of classes) m) (same_Some thing tree at) tt
+names_have classes (suc zero) m tree at = subst (HasPartsBefore (names_of classes) m) (same_Some nothing tree at) tt
+names_have classes (suc (suc n)) m tree at = no_parts (range_with_len 0 classes) n m tree (names_of classes) at
+
+-- the class name at a place
+named_at : (a n k : ℕ) (tree : Tree) → slice_get (map name (range_with_len a n)) k ≡ Some tree → (k < n) × (name (a + k) ≡ tree)
+named_at a zero k tree at = absurd (none-some tree at)
+named_at a (suc n) zero tree at = let none : a + 0 ≡ a = omega arith in (omega arith, ap name none ∙ same_Some (name a) tree at)
+named_at a (suc n) (suc k) tree at =
+    let rest = named_at (a + 1) n k tree at in
+    let more : a + suc k ≡ (a + 1) + k = omega arith in
+    (omega (arith, rest.0), ap name more ∙ rest.1)
+
+-- each name stands once
+names_once : (classes n : ℕ) (tree : Tree) → slice_get (names_of classes) n ≡ Some tree → place_of tree (names_of classes) ≡ n
+names_once classes zero tree at = subst (λ t. place_of t (names_of classes) ≡ 0) (same_Some thing tree at) refl
+names_once classes (suc zero) tree at = subst (λ t. place_of t (names_of classes) ≡ 1) (same_Some nothing tree at) refl
+names_once classes (suc (suc n)) tree at =
+    let named = named_at 0 classes n tree at in
+    let here = place_of_name 0 classes n named.0 in
+    subst (λ t. place_of t (names_of classes) ≡ suc (suc n)) named.1 (omega (arith, here))
 
 -- the names alone have the parts of each
 names_forest : (classes : ℕ) → IsForest classes (names_of classes)
 names_forest classes = record {
   more = [];
   begins = sym (append-nil (names_of classes));
-  parts = λ tree has. names_have classes (place_of tree (names_of classes)) tree (at_place tree (names_of classes) has);
+  parts = λ tree has. names_have classes (place_of tree (names_of classes)) (length (names_of classes)) tree (at_place tree (names_of classes) has);
+  before = λ n tree at. names_have classes n n tree at;
+  once = names_once classes;
 }
 
 -- how many names there are

@@ -1,11 +1,11 @@
 -- Lists of trees that have the parts of each tree, and their nodes.
-use Rattle.std.proofs.Common.{◌≡◌, ℕ, suc, ◌+◌, ◌<◌, Bool, true, false, not, cond, ◌&&◌, ◌||◌, List, [], ◌∷◌, ◌++◌, length, map, Some, slice_get, refl, sym, ap, subst, ◌∙◌, arith, length-append, append_assoc}
+use Rattle.std.proofs.Common.{◌≡◌, ℕ, zero, suc, ◌+◌, ◌<◌, ◌≤◌, Bool, true, false, not, cond, ◌&&◌, ◌||◌, List, [], ◌∷◌, ◌++◌, length, map, Some, slice_get, refl, sym, ap, subst, ◌∙◌, ◌⊎◌, inl, inr, ⊎_elim, arith, length-append, append_assoc}
 use Rattle.std.specs.Prelude.{◌==◌, if◌then◌else◌, ⊤}
 use Rattle.std.specs.List.{list_any, position_or_len}
 use Rattle.std.specs.Cmp.{both_ways}
 use Rattle.std.proofs.lemmas.Bool.{eqb-true, eq-eqb}
 use Rattle.std.proofs.lemmas.List.{append-nil}
-use Rattle.std.proofs.lemmas.Option.{slice_get_within, same_Some}
+use Rattle.std.proofs.lemmas.Option.{slice_get_within, same_Some, none-some}
 use Rattle.concept_store.specs.declared.types.Node.{Node}
 use Rattle.concept_store.specs.declared.types.Node.TheVariants.{And, Exists}
 use Rattle.concept_store.specs.Trees.{Tree, thing, nothing, name, both, some, same_tree, place_of, with_tree}
@@ -17,17 +17,23 @@ use Rattle.concept_store.proofs.TreeLaws.{same_tree_equal, same_tree_itself, at_
 abbrev pub Has : List Tree → Tree → Type 0
 Has trees tree = place_of tree trees < length trees
 
--- its parts are
-abbrev pub HasParts : List Tree → Tree → Type 0
-HasParts trees (both one other) = Has trees one × Has trees other
-HasParts trees (some role filler) = Has trees filler
-HasParts trees _ = ⊤
+-- its parts are among the first of the trees
+abbrev pub HasPartsBefore : List Tree → ℕ → Tree → Type 0
+HasPartsBefore trees n (both one other) = (place_of one trees < n) × (place_of other trees < n)
+HasPartsBefore trees n (some role filler) = place_of filler trees < n
+HasPartsBefore trees n _ = ⊤
 
--- the trees begin with the names, and have the parts of each
+-- its parts are among the trees
+abbrev pub HasParts : List Tree → Tree → Type 0
+HasParts trees tree = HasPartsBefore trees (length trees) tree
+
+-- the trees begin with the names, have the parts of each before it, and have each once
 pub record IsForest (classes : ℕ) (trees : List Tree) : Type 0 where
   pub more : List Tree
   pub begins : trees ≡ names_of classes ++ more
   pub parts : (tree : Tree) → Has trees tree → HasParts trees tree
+  pub before : (n : ℕ) (tree : Tree) → slice_get trees n ≡ Some tree → HasPartsBefore trees n tree
+  pub once : (n : ℕ) (tree : Tree) → slice_get trees n ≡ Some tree → place_of tree trees ≡ n
 
 -- a tree at a place is there
 pub has_at : (trees : List Tree) (n : ℕ) (tree : Tree) → slice_get trees n ≡ Some tree → Has trees tree
@@ -45,6 +51,22 @@ parts_kept trees more thing has = tt
 parts_kept trees more nothing has = tt
 parts_kept trees more (name class) has = tt
 
+-- and stay before a place
+before_kept : (trees more : List Tree) (n : ℕ) (tree : Tree) → n ≤ length trees → HasPartsBefore trees n tree → HasPartsBefore (trees ++ more) n tree
+before_kept trees more n (both one other) within before =
+    (omega (arith, within, before.0, place_kept one trees more (omega (arith, within, before.0))), omega (arith, within, before.1, place_kept other trees more (omega (arith, within, before.1))))
+before_kept trees more n (some role filler) within before = omega (arith, within, before, place_kept filler trees more (omega (arith, within, before)))
+before_kept trees more n thing within before = tt
+before_kept trees more n nothing within before = tt
+before_kept trees more n (name class) within before = tt
+
+-- what a list has at a place when one more follows: what it had, or the one
+at_or_last : (trees : List Tree) (tree : Tree) (n : ℕ) (other : Tree) → slice_get (trees ++ tree ∷ []) n ≡ Some other → (slice_get trees n ≡ Some other) ⊎ ((n ≡ length trees) × (tree ≡ other))
+at_or_last [] tree zero other at = inr (refl, same_Some tree other at)
+at_or_last [] tree (suc n) other at = absurd (none-some other at)
+at_or_last (first ∷ trees) tree zero other at = inl at
+at_or_last (first ∷ trees) tree (suc n) other at = ⊎_elim (λ there. inl there) (λ last. inr (ap suc last.0, last.1)) (at_or_last trees tree n other at)
+
 -- two trees that are there have one place exactly where they are the same
 same_place : (trees : List Tree) (one other : Tree) → Has trees one → Has trees other → (place_of one trees == place_of other trees) ≡ same_tree one other
 same_place trees one other has_one has_other = both_ways (place_of one trees == place_of other trees) (same_tree one other)
@@ -54,7 +76,7 @@ same_place trees one other has_one has_other = both_ways (place_of one trees == 
     (λ equal. eq-eqb (place_of one trees) (place_of other trees) (ap (λ t. place_of t trees) (same_tree_equal one other equal)))
 
 -- two trees whose parts are there have one node exactly where they are the same
-same_shape : (trees : List Tree) (one other : Tree) → HasParts trees one → HasParts trees other → same_node (node_in trees one) (node_in trees other) ≡ same_tree one other
+pub same_shape : (trees : List Tree) (one other : Tree) → HasParts trees one → HasParts trees other → same_node (node_in trees one) (node_in trees other) ≡ same_tree one other
 same_shape trees (both a b) (both c d) has_one has_other =
     let left = same_place trees a c has_one.0 has_other.0 in
     let right = same_place trees b d has_one.1 has_other.1 in
@@ -141,6 +163,15 @@ module _ (classes : ℕ) (trees : List Tree) (forest : IsForest classes trees) (
     more = forest.more ++ tree ∷ [];
     begins = ap (λ ts. ts ++ tree ∷ []) forest.begins ∙ append_assoc (names_of classes) forest.more (tree ∷ []);
     parts = λ other has. parts_new other (list_any (same_tree other) trees) refl has;
+    before = λ n other at. ⊎_elim
+        (λ there. before_kept trees (tree ∷ []) n other (omega (arith, slice_get_within trees n other there)) (forest.before n other there))
+        (λ last. subst (HasPartsBefore (trees ++ tree ∷ []) n) last.1
+        (subst (λ m. HasPartsBefore (trees ++ tree ∷ []) m tree) (sym last.0) (before_kept trees (tree ∷ []) (length trees) tree (omega arith) parts)))
+        (at_or_last trees tree n other at);
+    once = λ n other at. ⊎_elim
+        (λ there. place_kept other trees (tree ∷ []) (has_at trees n other there) ∙ forest.once n other there)
+        (λ last. subst (λ t. place_of t (trees ++ tree ∷ []) ≡ n) last.1 (added_place tree trees lost ∙ sym last.0))
+        (at_or_last trees tree n other at);
   }
     where
       parts_new : (other : Tree) (b : Bool) → list_any (same_tree other) trees ≡ b → Has (trees ++ tree ∷ []) other → HasParts (trees ++ tree ∷ []) other

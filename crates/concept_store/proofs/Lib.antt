@@ -12,3 +12,5 @@ pub mod TestLaws
 pub mod ReadingLaws
 pub mod FrontLaws
 pub mod OverTrees
+pub mod OrderLaws
+pub mod StandingLaws

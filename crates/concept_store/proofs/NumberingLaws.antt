@@ -15,7 +15,7 @@ use Rattle.concept_store.proofs.TreeLaws.{place_kept}
 use Rattle.concept_store.proofs.ForestLaws.{Has, IsForest, IsAdded, has_kept, added_is}
 
 -- class names stand in the order of their numbers
-place_of_name : (a n k : ℕ) → k < n → place_of (name (a + k)) (map name (range_with_len a n)) ≡ k
+pub place_of_name : (a n k : ℕ) → k < n → place_of (name (a + k)) (map name (range_with_len a n)) ≡ k
 place_of_name a zero k within = absurd (omega arith)
 place_of_name a (suc n) zero within = let here : (a + 0) ≡ a = omega arith in ap (λ b. cond (not b) (1 + place_of (name (a + 0)) (map name (range_with_len (a + 1) n))) 0) (eq-eqb (a + 0) a here)
 place_of_name a (suc n) (suc k) within =

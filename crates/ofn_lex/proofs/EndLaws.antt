@@ -2,7 +2,6 @@
 use Rattle.std.proofs.Common.{◌≡◌, ◌≤◌, ℕ, ◌+◌, Bool, true, false, cond, List, [], ◌∷◌, ◌++◌, length, refl, ap, sym, ◌∙◌, arith, Option, Some, None, append_assoc, length-append, eqb-true}
 use Rattle.std.specs.Prelude.{◌==◌, nat_lt, not, ◌&&◌, ◌||◌}
 use Rattle.std.specs.List.{AllByRecursion, prefix_len}
-use Rattle.std.proofs.lemmas.Bool.Decides.{nat_tests}
 use Rattle.byte_words.specs.Lists.{AllPassing, AllFailing, BeginsWithout}
 use Rattle.ofn_lex.specs.Bytes.{ends_line, is_white_space, begins_gap, is_iri_byte, is_escaped}
 use Rattle.ofn_lex.specs.Ends.{gap_end, comment_end, iri_end, quoted_end, escape_end, span_end}

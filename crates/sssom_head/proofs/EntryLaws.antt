@@ -11,7 +11,8 @@ use Rattle.sssom_head.specs.Lines.{begins_with_hash}
 use Rattle.sssom_head.specs.Contents.{behind_spaces, indentation}
 use Rattle.sssom_head.specs.Entries.{is_quote, is_value_byte, Word, word_text, word_bytes, IsKey, IsValue, Comment, comment_text, IsComment, Entry, entry_text, IsEntry}
 use Rattle.sssom_head.specs.HeaderSteps.{Pair, key_in, value_in, behind_some_spaces, behind_colon, ends_entry, entry_with_value, entry_behind_colon, entry_with_key, entry_in, entry_of}
-use Rattle.sssom_head.proofs.WordLaws.{utf8_parts, spaces_join, spaces_end, spaces_back, some_pair, KeyRead, key_read, key_again, value_read, value_again}
+use Rattle.sssom_head.proofs.WordLaws.{utf8_parts, spaces_join, spaces_end, spaces_back, some_pair}
+use Rattle.sssom_head.proofs.KeyLaws.{KeyRead, key_read, key_again, value_read, value_again}
 
 -- the colon and the spaces after it
 record ColonRead (text rest : List ℕ) : Type 0 where

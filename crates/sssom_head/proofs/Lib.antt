@@ -2,6 +2,7 @@ pub mod ReadBack
 pub mod FoundLaws
 pub mod LinePush
 pub mod WordLaws
+pub mod KeyLaws
 pub mod LineLaws
 pub mod EntryLaws
 pub mod PrefixLaws

@@ -23,12 +23,12 @@ numbered_code = code_by StoreParts
     (λ _. refl)
 
 abbrev CaseParts : Type 0
-CaseParts = Numbered × (List Axiom × (List Axiom × (List (List Axiom) × (List ℕ × (List (List NodeAxiom) × (ℕ × List ℕ))))))
+CaseParts = Numbered × (List Axiom × (List Axiom × (List (List Axiom) × (List ℕ × (List (List NodeAxiom) × (ℕ × (ℕ × List ℕ)))))))
 
 abbrev pub case_code : Coded CaseView
 case_code = code_by CaseParts
     (coded× numbered_code (coded× (coded_list given.the_row.coded) (coded× (coded_list given.the_row.coded) (coded× (coded_list (coded_list given.the_row.coded))
-    (coded× (coded_list coded_ℕ) (coded× (coded_list (coded_list over.the_row.coded)) (coded× coded_ℕ (coded_list coded_ℕ))))))))
-    (λ c. (c.store, (c.left, (c.right, (c.rows, (c.order, (c.over, (c.classes, c.excused))))))))
-    (λ p. record { store = p.0; left = p.1.0; right = p.1.1.0; rows = p.1.1.1.0; order = p.1.1.1.1.0; over = p.1.1.1.1.1.0; classes = p.1.1.1.1.1.1.0; excused = p.1.1.1.1.1.1.1 })
+    (coded× (coded_list coded_ℕ) (coded× (coded_list (coded_list over.the_row.coded)) (coded× coded_ℕ (coded× coded_ℕ (coded_list coded_ℕ)))))))))
+    (λ c. (c.store, (c.left, (c.right, (c.rows, (c.order, (c.over, (c.classes, (c.properties, c.excused)))))))))
+    (λ p. record { store = p.0; left = p.1.0; right = p.1.1.0; rows = p.1.1.1.0; order = p.1.1.1.1.0; over = p.1.1.1.1.1.0; classes = p.1.1.1.1.1.1.0; properties = p.1.1.1.1.1.1.1.0; excused = p.1.1.1.1.1.1.1.1 })
     (λ _. refl)

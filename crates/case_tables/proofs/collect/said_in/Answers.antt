@@ -8,7 +8,7 @@ pub loop-rank-init : goal.loop-rank-init
 loop-rank-init g c =
     no_rows (λ named. g.T.SaidEntry.said named.0 named.1) c.args.case.now.store.left c.args.case.now.store.right c.left.result.now c.right.result.now
     c.new-entries.result.items c.put_said.new.entries.items c.put_said-2.new.entries.items
-    (c.left.ensures ∙ ap (λ store. store.left) c.store.ensures) (c.right.ensures ∙ ap (λ store. store.right) c.store-2.ensures)
+    (c.left.ensures ∙ ap (λ store. store.left) c.store.ensures.store) (c.right.ensures ∙ ap (λ store. store.right) c.store-2.ensures.store)
     c.new-entries.ensures.items c.in_ok-put_said.ensures c.in_ok-put_said-2.ensures
 
 pub loop-rank-preserved : goal.loop-rank-preserved

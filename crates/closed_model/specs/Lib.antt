@@ -1,0 +1,3 @@
+pub mod ClosedTables
+pub mod Models
+pub mod Inside

@@ -1,0 +1,140 @@
+//! Whether an interpretation is a model of a case.
+
+ghost use Rattle.std.specs.Prelude.{◌≡◌, ◌<◌, ◌^◌, ◌++◌, ℕ, length, All, IfErr, OnOk};
+ghost use Rattle.std.specs.List.Sorted.{IsStrictlyIncreasing};
+ghost use Rattle.el_logic.specs.declared.types.Part.{Part};
+ghost use Rattle.el_logic.specs.Meaning.{IsInterp, Holds};
+ghost use Rattle.case_file.specs.Incoherence.{axioms_for};
+ghost use Rattle.closed_model.specs.ClosedTables.{AreRanksOf};
+ghost use Rattle.closed_model.specs.Models.{IsModelFor};
+ghost use Rattle.byte_words.specs.Faults.{OrOutOfMemory};
+ghost use Rattle.model_check.specs.Faults.{IsModelFault, IsFirstFailing, sourced_axioms};
+ghost use Rattle.model_check.specs.Inside.Lists.{has_number, source_at, FindsFailing, FindsFailingRow, FindsFailingOf, FindsEmpty};
+
+use crate::ModelFault;
+use case_file::Case;
+use concept_store::nodes_stand_in_order;
+use el_logic::{Axiom, Interp, holds, is_interpretation};
+use fact_table::Source;
+
+// Where axioms are from.
+#[derive(Clone, Copy)]
+enum Origin {
+    Left,
+    Right,
+    Row(u32),
+}
+
+// The axiom there with this number.
+fn source_at(origin: Origin, number: u32) -> Source
+    ensures { result ≡ source_at origin number }
+{
+    match origin {
+        Origin::Left => Source::Left(number),
+        Origin::Right => Source::Right(number),
+        Origin::Row(rank) => Source::Row { rank, number },
+    }
+}
+
+// The first of the axioms from there that doesn't hold.
+fn first_failing(i: &Interp, origin: Origin, axioms: &[Axiom]) -> Option<Source>
+    requires fits { IsInterp (length i.now.classes) (length i.now.roles) i.now }
+    requires few { length axioms.now < 2 ^ 32 }
+    ensures { FindsFailing i.now origin axioms.now result }
+{
+    let mut number = 0u32;
+    for axiom in axioms {
+        number += 1;
+        if !holds(i, axiom) {
+            return Some(source_at(origin, number));
+        }
+    }
+    None
+}
+
+// Whether ascending numbers have this one.
+fn has_number(numbers: &[u32], x: u32) -> bool
+    requires { IsStrictlyIncreasing numbers.now }
+    ensures { result ≡ has_number numbers.now x }
+{
+    match numbers.binary_search(&x) {
+        Ok(_) => true,
+        Err(_) => false,
+    }
+}
+
+// The first of the rows' axioms that doesn't hold.
+fn first_failing_row(case: &Case, i: &Interp, ranks: &[u32]) -> Option<Source>
+    requires fits { IsInterp case.now.classes case.now.properties i.now }
+    requires ranks { All (λ rank. rank < length case.now.order) ranks.now }
+    ensures { FindsFailingRow case.now i.now ranks.now result }
+{
+    let _case = case.store();
+    for rank in ranks {
+        match first_failing(i, Origin::Row(*rank), case.axioms_of(*rank).as_slice()) {
+            Some(source) => return Some(source),
+            None => {}
+        }
+    }
+    None
+}
+
+// The first axiom that doesn't hold.
+fn first_failing_of(case: &Case, i: &Interp, ranks: &[u32]) -> Option<Source>
+    requires fits { IsInterp case.now.classes case.now.properties i.now }
+    requires ranks { All (λ rank. rank < length case.now.order) ranks.now }
+    ensures { FindsFailingOf case.now i.now ranks.now result }
+{
+    let _case = case.store();
+    match first_failing(i, Origin::Left, case.left().as_slice()) {
+        Some(source) => return Some(source),
+        None => {}
+    }
+    match first_failing(i, Origin::Right, case.right().as_slice()) {
+        Some(source) => return Some(source),
+        None => {}
+    }
+    first_failing_row(case, i, ranks)
+}
+
+// The first node that must have a member and has none.
+fn first_empty(case: &Case, i: &Interp) -> Option<u32>
+    requires { IsInterp case.now.classes case.now.properties i.now }
+    ensures { FindsEmpty case.now i.now result }
+{
+    nodes_stand_in_order();
+    let _nodes = case.store().nodes();
+    let classes = i.classes.as_slice();
+    for class in 0..case.classes() {
+        if !classes[class as usize].is_empty() {
+            continue;
+        }
+        let node = class + 2;
+        if has_number(case.excused(), node) {
+            continue;
+        }
+        return Some(node);
+    }
+    None
+}
+
+/// Whether an interpretation is a model of the case for these ranks. The first fault in this order
+/// is answered: its form, the first axiom of LEFT, RIGHT and the rows with the ranks that doesn't
+/// hold, the first class that must have a member and has none.
+pub fn check_model(case: &Case, model: &Interp, ranks: &[u32]) -> Result<(), ModelFault>
+    requires { AreRanksOf case.now ranks.now }
+    ensures ok { OnOk result (IsModelFor case.now ranks.now model.now) }
+    ensures fault { IfErr result (IsModelFault case.now ranks.now model.now) }
+{
+    if !is_interpretation(model, case.classes(), case.properties()) {
+        return Err(ModelFault::Form);
+    }
+    match first_failing_of(case, model, ranks) {
+        Some(source) => return Err(ModelFault::Axiom(source)),
+        None => {}
+    }
+    match first_empty(case, model) {
+        Some(node) => Err(ModelFault::Class(node)),
+        None => Ok(()),
+    }
+}

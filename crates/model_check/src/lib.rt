@@ -1,0 +1,8 @@
+//! Whether an interpretation is a model of a case for some ranks.
+#![tactic(auto)]
+
+mod check;
+mod types;
+
+pub use check::check_model;
+pub use types::ModelFault;
