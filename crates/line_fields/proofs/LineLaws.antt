@@ -1,14 +1,14 @@
 -- Lines of fields are read as they are written, and what is read is what is written.
-use Rattle.std.proofs.Common.{◌≡◌, ◌≢◌, ℕ, ◌==◌, Bool, true, false, ◌||◌, List, [], ◌∷◌, ◌++◌, length, refl, ap, sym, ◌∙◌, append_assoc, arith, All}
-use Rattle.std.specs.List.{slice_split, join_with_byte, AllByRecursion, flat_map}
+use Rattle.std.proofs.Common.{◌≡◌, ◌≢◌, ℕ, Bool, true, false, ◌||◌, List, [], ◌∷◌, ◌++◌, refl, ap, sym, ◌∙◌, append_assoc}
+use Rattle.std.specs.List.{slice_split, join_with_byte, AllByRecursion}
 use Rattle.std.proofs.lemmas.List.{append-nil}
 use Rattle.std.proofs.lemmas.List.Elements.{All-from_recursion}
 use Rattle.std.proofs.lemmas.List.Concat.{flat_map-cons}
 use Rattle.std.proofs.lemmas.List.Splits.{slice_split_none, slice_split_at, join_with_byte-slice_split}
 use Rattle.byte_words.specs.Bytes.{is_space, is_line_feed}
 use Rattle.byte_words.specs.Lists.{AllFailing}
-use Rattle.line_fields.specs.Lines.{Fields, spaced, joined, line, text_of, parts_fields, IsField, IsLine}
-use Rattle.line_fields.specs.Reading.{fields_of, lines_in, lines_of, last_line}
+use Rattle.line_fields.specs.Lines.{Fields, spaced, joined, line, text_of, IsField, IsLine}
+use Rattle.line_fields.specs.Reading.{fields_of, lines_in, lines_of}
 use Rattle.line_fields.proofs.PieceLaws.{HasPieces, some_pieces, first_line}
 
 neither : (x y : Bool) → (x || y) ≡ false → (x ≡ false) × (y ≡ false)

@@ -1,6 +1,6 @@
 //! A text, line by line.
 
-ghost use Rattle.std.specs.Prelude.{◌≡◌, ◌≤◌, ◌+◌, [], ◌∷◌, MatchOption, length};
+ghost use Rattle.std.specs.Prelude.{◌≡◌, ◌≤◌, ◌+◌, [], ◌∷◌, MatchOption, IfSome, length};
 ghost use Rattle.line_fields.specs.Reading.{lines_of, At};
 
 use crate::fields::Fields;
@@ -44,8 +44,9 @@ impl<'a> Cursor<'a> {
     /// The fields of the next line, and the place after it. A line that is not ended has none.
     #[tactic(auto, using(crate::proofs::PieceLaws::first_line, crate::proofs::PieceLaws::open_line))]
     pub fn next(&self) -> Option<(Fields<'a>, Cursor<'a>)>
-        ensures lines { MatchOption result (self.now.lines ≡ []) (λ x. self.now.lines ≡ x.0 ∷ x.1.lines) }
-        ensures read { MatchOption result (self.now.lines ≡ []) (λ x. x.1.read ≡ self.now.read + 1) }
+        ensures lines { let left = self.now.lines in
+            MatchOption result (left ≡ []) (λ x. left ≡ x.0 ∷ x.1.lines) }
+        ensures read { IfSome result (λ x. x.1.read ≡ self.now.read + 1) }
     {
         if self.text.is_empty() {
             return None;
