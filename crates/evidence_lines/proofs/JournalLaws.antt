@@ -1,5 +1,5 @@
 -- A line of a journal is read as the entry that it spells, and as no other.
-use Rattle.std.proofs.Common.{◌≡◌, ◌⊎◌, inl, inr, ℕ, ◌^◌, ◌<◌, Bool, true, false, cond, List, [], ◌∷◌, ◌++◌, refl, ap, sym, subst, ◌∙◌, Option, Some, None}
+use Rattle.std.proofs.Common.{◌≡◌, inl, inr, ℕ, ◌^◌, ◌<◌, Bool, true, false, cond, List, [], ◌∷◌, ◌++◌, refl, ap, sym, subst, ◌∙◌, Option, Some, None}
 use Rattle.std.specs.Prelude.{decimal, bytes_eq, codes, ⊤}
 use Rattle.std.specs.Cmp.Lexicographic.{bytes_decides}
 use Rattle.accuse_core.specs.declared.event.Event.{Event}
@@ -11,7 +11,7 @@ use Rattle.line_fields.specs.Lines.{Fields}
 use Rattle.line_fields.specs.Numbers.{short_number}
 use Rattle.line_fields.specs.Reading.{◌>>=◌, short_in, is_end}
 use Rattle.evidence_lines.specs.Journal.{event_fields, reply_word, reply_fields, entry_fields, is_answer, HasEntryLine, take_in, no_in, yes_in, block_in, verb_in, event_in, word_replies, first_reply, seen_of, stale_of, front_of, word_or_front, reply_of, if_answer, entry_of, AreEventNumbers, AreReplyNumbers, AreEntryNumbers}
-use Rattle.evidence_lines.proofs.Found.{NumberLaw, Bound, bound, some_is, none_is, word_case, if_case, end_is, Takes, taken, Makes, makes, one_number, rest_is, short_takes}
+use Rattle.evidence_lines.proofs.Found.{NumberLaw, bound, some_is, none_is, word_case, if_case, end_is, Takes, taken, Makes, makes, short_takes}
 
 -- ---- events
 

@@ -1,14 +1,14 @@
 -- A line of a model is read as the list that it spells, and as no other.
-use Rattle.std.proofs.Common.{◌≡◌, ◌⊎◌, inl, inr, ℕ, ◌+◌, ◌^◌, ◌<◌, ◌==◌, Bool, true, false, cond, List, [], ◌∷◌, ◌++◌, refl, ap, sym, subst, ◌∙◌, arith, Option, Some, None}
-use Rattle.std.specs.Prelude.{decimal, bytes_eq, codes, ⊤}
+use Rattle.std.proofs.Common.{◌≡◌, ℕ, ◌+◌, ◌^◌, ◌<◌, ◌==◌, Bool, true, false, cond, List, [], ◌∷◌, refl, ap, subst, ◌∙◌, arith, Option, Some, None}
+use Rattle.std.specs.Prelude.{decimal, bytes_eq, codes}
 use Rattle.std.specs.Cmp.Lexicographic.{bytes_decides}
 use Rattle.std.proofs.lemmas.Bool.{eqb-true}
 use Rattle.std.proofs.lemmas.Bool.Decides.{nat_tests}
 use Rattle.line_fields.specs.Lines.{Fields}
 use Rattle.line_fields.specs.Numbers.{short_number}
 use Rattle.line_fields.specs.Reading.{◌>>=◌, short_in}
-use Rattle.evidence_lines.specs.Model.{element_fields, pair_fields, class_fields, property_fields, element_follows, pair_follows, ElementsAscend, PairsAscend, onto, if_follows, elements_in, pair_in, pairs_in, after_number, after_word, members_of, pairs_of, AreElementNumbers, ArePairNumbers}
-use Rattle.evidence_lines.proofs.Found.{NumberLaw, Bound, bound, some_is, none_is, word_case, if_case, Makes, makes, short_takes}
+use Rattle.evidence_lines.specs.Model.{element_fields, pair_fields, class_fields, property_fields, element_follows, pair_follows, ElementsAscend, PairsAscend, onto, if_follows, elements_in, pairs_in, after_number, after_word, members_of, pairs_of, AreElementNumbers, ArePairNumbers}
+use Rattle.evidence_lines.proofs.Found.{NumberLaw, bound, some_is, none_is, if_case, Makes, makes, short_takes}
 
 -- an element before others
 record IsOnto {X : Type 0} (x : X) (o : Option (List X)) (xs : List X) : Type 0 where

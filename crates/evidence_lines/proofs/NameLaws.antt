@@ -1,5 +1,5 @@
 -- A line of a node or of a role is read as what it spells, and as nothing else.
-use Rattle.std.proofs.Common.{◌≡◌, ◌⊎◌, inl, inr, ℕ, ◌+◌, ◌-◌, ◌^◌, ◌<◌, ◌&&◌, Bool, true, false, cond, List, [], ◌∷◌, ◌++◌, length, take, drop, refl, ap, sym, subst, ◌∙◌, arith, Option, Some, None}
+use Rattle.std.proofs.Common.{◌≡◌, inl, inr, ℕ, ◌-◌, ◌^◌, ◌<◌, ◌&&◌, Bool, true, false, cond, List, [], ◌∷◌, ◌++◌, length, take, drop, refl, ap, sym, subst, ◌∙◌, arith, Some, None}
 use Rattle.std.specs.Prelude.{decimal, bytes_eq, codes, ⊤, IsUtf8}
 use Rattle.std.specs.Str.{is_utf8}
 use Rattle.std.specs.Cmp.Lexicographic.{bytes_decides}
@@ -9,13 +9,13 @@ use Rattle.el_logic.specs.declared.types.Side.{Side}
 use Rattle.el_logic.specs.declared.types.Side.TheVariants as side
 use Rattle.byte_words.specs.Fronts.{without_front}
 use Rattle.line_fields.specs.Lines.{Fields}
-use Rattle.line_fields.specs.Reading.{◌>>=◌, with_rest, short_in, is_end}
+use Rattle.line_fields.specs.Reading.{◌>>=◌, short_in, is_end}
 use Rattle.evidence_lines.specs.declared.types.NodeLine.{NodeLine}
 use Rattle.evidence_lines.specs.declared.types.NodeLine.TheVariants.{Top, Bottom, Class, And, Exists}
 use Rattle.evidence_lines.specs.declared.types.RoleLine.{RoleLine}
 use Rattle.evidence_lines.specs.declared.types.RoleLine.TheVariants.{Property, Part}
-use Rattle.evidence_lines.specs.Names.{iri_field, is_iri, side_word, node_fields, role_fields, HasNodeLine, HasRoleLine, without_back, if_iri, iri_of, iri_in, if_end, one_iri, two_numbers, class_of, and_of, some_of, plain_by, node_by, node_of, side_named, side_in, property_of, part_of, role_by, role_of, IsNodeValue, IsRoleValue}
-use Rattle.evidence_lines.proofs.Found.{NumberLaw, Bound, bound, some_is, none_is, word_case, if_case, end_is, Takes, taken, Makes, makes, one_number, rest_is, short_takes}
+use Rattle.evidence_lines.specs.Names.{iri_field, is_iri, side_word, node_fields, role_fields, HasNodeLine, HasRoleLine, without_back, if_iri, iri_of, iri_in, if_end, one_iri, two_numbers, class_of, and_of, some_of, plain_by, node_of, side_named, side_in, property_of, part_of, role_of, IsNodeValue, IsRoleValue}
+use Rattle.evidence_lines.proofs.Found.{NumberLaw, bound, some_is, none_is, word_case, if_case, end_is, Takes, Makes, makes, rest_is, short_takes}
 
 -- ---- IRIs
 

@@ -1,14 +1,14 @@
 -- A line of an axiom that is left out is read as what it spells, and as nothing else.
-use Rattle.std.proofs.Common.{◌≡◌, ℕ, ◌^◌, ◌<◌, List, [], ◌∷◌, ◌++◌, refl, ap, sym, subst, ◌∙◌, Option, Some, None}
+use Rattle.std.proofs.Common.{◌≡◌, ℕ, List, [], ◌∷◌, refl, ap, ◌∙◌, Some}
 use Rattle.std.specs.Prelude.{decimal, ⊤}
 use Rattle.ofn_heads.specs.declared.outside.HeadId.{HeadId}
 use Rattle.ofn_heads.specs.Heads.{name_of, id_named}
 use Rattle.line_fields.specs.Lines.{Fields}
-use Rattle.line_fields.specs.Reading.{◌>>=◌, with_rest, long_in}
+use Rattle.line_fields.specs.Reading.{◌>>=◌, long_in}
 use Rattle.evidence_lines.specs.declared.types.SidedOmitted.{SidedOmitted}
 use Rattle.evidence_lines.specs.Names.{side_word, side_in, if_end}
 use Rattle.evidence_lines.specs.Omitted.{omitted_fields, head_in, sided, omitted_of, ArePlaceNumbers}
-use Rattle.evidence_lines.proofs.Found.{NumberLaw, Bound, bound, none_is, Takes, Makes, makes, rest_is, long_takes}
+use Rattle.evidence_lines.proofs.Found.{NumberLaw, bound, none_is, Takes, Makes, makes, rest_is, long_takes}
 use Rattle.evidence_lines.proofs.NameLaws.{if_end_is, side_takes, side_again}
 
 -- heads are found by their names alone

@@ -1,6 +1,6 @@
 -- The fields of lines have no space and no line feed.
-use Rattle.std.proofs.Common.{◌≡◌, ◌≢◌, ℕ, ◌+◌, ◌^◌, ◌<◌, ◌&&◌, ◌||◌, Bool, true, false, not, List, [], ◌∷◌, ◌++◌, refl, sym, arith}
-use Rattle.std.specs.Prelude.{decimal, codes, ⊤}
+use Rattle.std.proofs.Common.{◌≡◌, ◌≢◌, ℕ, ◌+◌, ◌^◌, ◌<◌, ◌&&◌, Bool, true, false, not, List, [], ◌∷◌, ◌++◌, refl, arith}
+use Rattle.std.specs.Prelude.{decimal, codes}
 use Rattle.std.specs.List.{AllByRecursion, list_all}
 use Rattle.std.proofs.lemmas.Bool.Decides.{nat_tests}
 use Rattle.el_logic.specs.declared.types.Side.{Side}
@@ -26,7 +26,7 @@ use Rattle.evidence_lines.specs.declared.types.NodeLine.TheVariants as node
 use Rattle.evidence_lines.specs.declared.types.RoleLine.{RoleLine}
 use Rattle.evidence_lines.specs.declared.types.RoleLine.TheVariants as role
 use Rattle.evidence_lines.specs.declared.types.SidedOmitted.{SidedOmitted}
-use Rattle.evidence_lines.specs.Steps.{fact_fields, rule_word, names_first, names_second, names_axiom, premise_fields, source_fields, argument_fields, step_fields, AreFactNumbers, AreSourceNumbers, AreStepNumbers}
+use Rattle.evidence_lines.specs.Steps.{fact_fields, rule_word, names_first, names_second, premise_fields, source_fields, argument_fields, step_fields, AreFactNumbers, AreSourceNumbers, AreStepNumbers}
 use Rattle.evidence_lines.specs.Names.{iri_field, is_iri_byte, is_iri, side_word, node_fields, role_fields, HasNodeLine, HasRoleLine, IsNodeValue, IsRoleValue}
 use Rattle.evidence_lines.specs.Omitted.{omitted_fields, ArePlaceNumbers}
 use Rattle.evidence_lines.specs.Journal.{event_fields, reply_fields, entry_fields, AreEventNumbers, AreReplyNumbers, AreEntryNumbers}

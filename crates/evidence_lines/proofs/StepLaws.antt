@@ -1,7 +1,6 @@
 -- A line of a step is read as the step that it spells, and as no other.
-use Rattle.std.proofs.Common.{◌≡◌, ◌⊎◌, inl, inr, ℕ, ◌^◌, ◌<◌, ◌==◌, ◌||◌, Bool, true, false, cond, List, [], ◌∷◌, ◌++◌, refl, ap, sym, subst, ◌∙◌, append_assoc, arith, Option, Some, None}
+use Rattle.std.proofs.Common.{◌≡◌, ◌⊎◌, inl, inr, ℕ, ◌^◌, ◌<◌, ◌==◌, ◌||◌, Bool, true, false, cond, List, [], ◌∷◌, ◌++◌, refl, ap, sym, subst, ◌∙◌, arith, Option, Some, None}
 use Rattle.std.specs.Prelude.{decimal, bytes_eq, codes, ⊤}
-use Rattle.std.specs.Cmp.Lexicographic.{bytes_decides}
 use Rattle.std.proofs.lemmas.Bool.{eqb-true}
 use Rattle.std.proofs.lemmas.List.{append-nil}
 use Rattle.fact_table.specs.declared.types.Fact.{Fact}
@@ -12,10 +11,10 @@ use Rattle.fact_table.specs.declared.types.Source.{Source}
 use Rattle.fact_table.specs.declared.types.Source.TheVariants.{Left, Right, Row, Nothing}
 use Rattle.derivation.specs.declared.types.Step.{Step}
 use Rattle.line_fields.specs.Lines.{Fields}
-use Rattle.line_fields.specs.Reading.{◌>>=◌, with_rest, long_in, short_in, is_end}
+use Rattle.line_fields.specs.Reading.{◌>>=◌, short_in, is_end}
 use Rattle.evidence_lines.specs.Steps.{fact_fields, rule_word, names_first, names_second, names_axiom, premise_fields, source_fields, argument_fields, step_fields, IsPremise, IsSource, HasStepLine, AreFactNumbers, AreSourceNumbers, AreStepNumbers}
 use Rattle.evidence_lines.specs.StepReading.{sub_in, link_in, fact_in, first_rules, last_rules, first_rule, or_else, rule_named, rule_in, premise_in, left_in, right_in, row_in, axiom_in, source_in, ended_step, step_of}
-use Rattle.evidence_lines.proofs.Found.{NumberLaw, Bound, bound, some_is, none_is, word_case, if_case, end_is, Takes, taken, Makes, makes, one_number, rest_is, short_takes, long_takes}
+use Rattle.evidence_lines.proofs.Found.{NumberLaw, bound, some_is, none_is, word_case, if_case, end_is, Takes, taken, Makes, makes, rest_is, short_takes, long_takes}
 
 -- ---- facts
 

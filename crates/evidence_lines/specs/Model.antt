@@ -52,7 +52,8 @@ if_follows follows found = if follows then found else None
 abbrev pub elements_in : Option ℕ → Fields → Option (List ℕ)
 elements_in before [] = Some []
 elements_in before (field ∷ rest) =
-    short_number field >>= λ x. if_follows (element_follows before x) (onto x (elements_in (Some x) rest))
+    short_number field >>= λ x.
+    if_follows (element_follows before x) (onto x (elements_in (Some x) rest))
 
 -- a pair, the first number of which is this field
 abbrev pub pair_in : List ℕ → Fields → Option ((ℕ × ℕ) × Fields)

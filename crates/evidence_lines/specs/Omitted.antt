@@ -1,5 +1,5 @@
 -- Lines of axioms that are left out: how each is spelled and read, and their order.
-use Rattle.std.specs.Prelude.{ℕ, ◌<◌, ◌^◌, ◌==◌, nat_lt, Bool, true, false, ◌&&◌, ◌||◌, List, [], ◌∷◌, decimal, Option, Some, None}
+use Rattle.std.specs.Prelude.{ℕ, ◌<◌, ◌^◌, ◌==◌, nat_lt, Bool, true, false, ◌&&◌, ◌||◌, [], ◌∷◌, decimal, Option, None}
 use Rattle.el_logic.specs.declared.types.Side.{Side}
 use Rattle.el_logic.specs.declared.types.Side.TheVariants as side
 use Rattle.text_names.specs.declared.place.Place.{Place}
@@ -35,7 +35,10 @@ head_in (word ∷ rest) = with_rest rest (id_named word)
 
 abbrev pub sided : Side → ℕ → ℕ → HeadId → SidedOmitted
 sided side line column head =
-    record { side = side; omitted = record { place = record { line = line; column = column }; head = head } }
+    record {
+      side = side;
+      omitted = record { place = record { line = line; column = column }; head = head };
+    }
 
 -- the axiom that a line with these fields is
 unfoldable pub omitted_of : Fields → Option SidedOmitted

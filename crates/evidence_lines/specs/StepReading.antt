@@ -1,5 +1,5 @@
 -- How a line of a step is read.
-use Rattle.std.specs.Prelude.{ℕ, ◌==◌, ◌||◌, Bool, true, false, if◌then◌else◌, List, [], ◌∷◌, codes, bytes_eq, Option, Some, None}
+use Rattle.std.specs.Prelude.{ℕ, ◌==◌, ◌||◌, Bool, if◌then◌else◌, List, [], ◌∷◌, codes, bytes_eq, Option, Some, None}
 use Rattle.fact_table.specs.declared.types.Fact.{Fact}
 use Rattle.fact_table.specs.declared.types.Fact.TheVariants.{Sub, Link}
 use Rattle.fact_table.specs.declared.types.Rule.{Rule}
@@ -31,7 +31,8 @@ fact_in (word ∷ rest) =
     if bytes_eq word (codes "link") then link_in rest else None
 
 abbrev pub first_rules : List Rule
-first_rules = rule.Itself ∷ rule.Top ∷ rule.Incl ∷ rule.Left ∷ rule.Right ∷ rule.Both ∷ rule.Out ∷ []
+first_rules =
+    rule.Itself ∷ rule.Top ∷ rule.Incl ∷ rule.Left ∷ rule.Right ∷ rule.Both ∷ rule.Out ∷ []
 
 abbrev pub last_rules : List Rule
 last_rules = rule.Into ∷ rule.Void ∷ rule.Role ∷ rule.Chain ∷ rule.Refl ∷ rule.Dom ∷ rule.Disj ∷ []
@@ -86,7 +87,13 @@ source_in named fields = if named then axiom_in fields else Some (Nothing, field
 abbrev pub ended_step : Fact → Rule → ℕ → ℕ → Source × Fields → Option Step
 ended_step fact rule first second source =
     if is_end source.1
-    then Some (record { first = first; second = second; fact = fact; source = source.0; rule = rule })
+    then Some (record {
+      first = first;
+      second = second;
+      fact = fact;
+      source = source.0;
+      rule = rule;
+    })
     else None
 
 -- the step that a line with these fields is

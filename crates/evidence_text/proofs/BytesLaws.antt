@@ -13,7 +13,7 @@ use Rattle.line_fields.specs.Reading.{At, fields_of, lines_of}
 use Rattle.evidence_text.specs.declared.types.EvidenceFault.{EvidenceFault}
 use Rattle.evidence_text.specs.declared.types.EvidenceFault.TheVariants.{Version}
 use Rattle.evidence_text.specs.declared.types.Evidence.{Evidence}
-use Rattle.evidence_text.specs.EvidenceText.{version_fields, kind_fields, lists_lines, body_lines, end_fields, evidence_lines, evidence_text, HasText, IsValue, plain}
+use Rattle.evidence_text.specs.EvidenceText.{version_fields, kind_fields, lists_lines, body_lines, end_fields, evidence_lines, evidence_text, HasText, IsEvidenceValue, plain}
 use Rattle.evidence_text.specs.FirstLines.{is_other_version}
 use Rattle.evidence_text.specs.Reading.{lines_read, first_of, first_piece, text_read}
 use Rattle.evidence_text.proofs.BodyLaws.{LineLaws}
@@ -37,7 +37,7 @@ first_is later =
     let none : AllFailing is_line_feed (joined version_fields) = (refl, (refl, (refl, (refl, (refl, (refl, (refl, (refl, (refl, (refl, (refl, (refl, (refl, (refl, (refl, tt))))))))))))))) in
     ap first_piece regrouped ∙ ap first_of (slice_split_at is_line_feed (joined version_fields) 10 (text_of later) (All-from_recursion (λ b. is_line_feed b ≡ false) (joined version_fields) none) refl)
 
-pub text_again : LineLaws → LinesLaw → (e : Evidence) → HasText e → IsValue e → text_read (evidence_text e) ≡ Ok (plain e)
+pub text_again : LineLaws → LinesLaw → (e : Evidence) → HasText e → IsEvidenceValue e → text_read (evidence_text e) ≡ Ok (plain e)
 unfolding text_read evidence_text
 text_again laws lines e has is =
     let all = evidence_lines e in
@@ -49,7 +49,7 @@ text_again laws lines e has is =
 pub record IsRead (text : List ℕ) (e : Evidence) : Type 0 where
   pub spelled : text ≡ evidence_text e
   pub has : HasText e
-  pub is : IsValue e
+  pub is : IsEvidenceValue e
 
 pub text_back : LineLaws → LinesLaw → (text : List ℕ) (e : Evidence) → text_read text ≡ Ok e → IsRead text e
 unfolding text_read evidence_text

@@ -5,7 +5,7 @@ use Rattle.line_fields.specs.Lines.{Fields}
 use Rattle.line_fields.specs.Reading.{At}
 use Rattle.evidence_text.specs.declared.types.EvidenceFault.{EvidenceFault}
 use Rattle.evidence_text.specs.declared.types.EvidenceFault.TheVariants.{Version, Line, Length, OutOfMemory}
-use Rattle.evidence_text.specs.Reading.{Read, ◌>>=◌, of_form, line_by, next_line, entries, Fails, Gives}
+use Rattle.evidence_text.specs.Reading.{Read, ◌>>=◌, of_form, line_by, next_line, entries, FailsRead, GivesRead}
 use Rattle.evidence_text.specs.Inside.Loops.{with_front, last_of}
 
 regroup : {X : Type 0} → (front : List X) (x : X) (read : Read (List X)) → with_front front (read >>= λ xs. Ok (x ∷ xs.0, xs.1)) ≡ with_front (front ++ x ∷ []) read

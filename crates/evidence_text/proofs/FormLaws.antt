@@ -19,7 +19,7 @@ use Rattle.evidence_text.specs.declared.types.Removed.{Removed}
 use Rattle.evidence_text.specs.declared.types.Body.{Body}
 use Rattle.evidence_text.specs.declared.types.Body.TheVariants as body
 use Rattle.evidence_text.specs.declared.types.Evidence.{Evidence}
-use Rattle.evidence_text.specs.EvidenceText.{version_fields, kind_fields, part_word, numbered, section_lines, omitted_list, row_fields, removed_lines, rows_lines, lines_from, model_lines, lists_lines, body_lines, end_fields, evidence_lines, HaveLinesFrom, HasBodyText, HasText, AreRemovedNumbers, AreBodyNumbers, IsValue}
+use Rattle.evidence_text.specs.EvidenceText.{version_fields, kind_fields, part_word, numbered, section_lines, omitted_list, row_fields, removed_lines, rows_lines, lines_from, model_lines, lists_lines, body_lines, end_fields, evidence_lines, HaveLinesFrom, HasBodyText, HasText, AreRemovedNumbers, AreBodyNumbers, IsEvidenceValue}
 use Rattle.evidence_text.specs.Reading.{any_order, ordered_omitted}
 use Rattle.evidence_text.proofs.OptionLaws.{NumberLaw}
 use Rattle.evidence_text.proofs.SectionLaws.{IsForm, AllFit, entries_line, FitsAny, any_form, any_fit}
@@ -103,7 +103,7 @@ kind_line : (k : Kind) → IsLine (kind_fields k)
 kind_line kind.Diagnosis = record { some = not_nil (codes "diagnosis") []; each = (word (codes "diagnosis") refl, tt) }
 kind_line (kind.Refusal p) = record { some = not_nil (codes "refusal") (part_word p ∷ []); each = (word (codes "refusal") refl, (part_line p, tt)) }
 
-pub evidence_line : LineLaws → (e : Evidence) → HasText e → IsValue e → AreLines (evidence_lines e)
+pub evidence_line : LineLaws → (e : Evidence) → HasText e → IsEvidenceValue e → AreLines (evidence_lines e)
 evidence_line laws e has is =
     let version : IsLine version_fields = record {
       some = not_nil (codes "alod") (codes "evidence" ∷ codes "1" ∷ []);

@@ -8,8 +8,8 @@ use Rattle.evidence_text.specs.declared.types.Body.{Body}
 use Rattle.evidence_text.specs.declared.types.Body.TheVariants as body
 use Rattle.evidence_text.specs.declared.types.Evidence.{Evidence}
 use Rattle.line_fields.specs.Lines.{text_of}
-use Rattle.evidence_text.specs.EvidenceText.{version_fields, kind_fields, lists_lines, body_lines, end_fields, evidence_text, HasBodyText, HasText, IsValue, plain, plain_body}
-use Rattle.evidence_text.specs.Reading.{text_read, Gives}
+use Rattle.evidence_text.specs.EvidenceText.{version_fields, kind_fields, lists_lines, body_lines, end_fields, evidence_text, HasBodyText, HasText, IsEvidenceValue, plain, plain_body}
+use Rattle.evidence_text.specs.Reading.{text_read, GivesRead}
 
 same_lines : (b : Body) → body_lines (plain_body b) ≡ body_lines b
 same_lines (body.Diagnosis removed model journal) = refl
@@ -28,8 +28,8 @@ has_body (kind.Refusal p) (body.Refusal steps) has = has
 has_text : (e : Evidence) → HasText (plain e) → HasText e
 has_text e has = record { omitted = has.omitted; nodes = has.nodes; roles = has.roles; body = has_body e.kind e.body has.body }
 
-pub is_found : ((text : List ℕ) (e : Evidence) → text_read text ≡ Ok e → (text ≡ evidence_text e) × HasText e × IsValue e)
-    → (bytes : List ℕ) (r : Result Evidence EvidenceFault) → Gives plain r (text_read bytes) → IfOk r (λ e. HasText e × (bytes ≡ evidence_text e))
+pub is_found : ((text : List ℕ) (e : Evidence) → text_read text ≡ Ok e → (text ≡ evidence_text e) × HasText e × IsEvidenceValue e)
+    → (bytes : List ℕ) (r : Result Evidence EvidenceFault) → GivesRead plain r (text_read bytes) → IfOk r (λ e. HasText e × (bytes ≡ evidence_text e))
 is_found back bytes (Ok e) given = let b = back bytes (plain e) given in (has_text e b.1, b.0 ∙ same_text e)
 is_found back bytes (Err fault) given = tt
 

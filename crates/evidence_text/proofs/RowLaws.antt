@@ -10,7 +10,7 @@ use Rattle.evidence_text.specs.declared.types.EvidenceFault.{EvidenceFault}
 use Rattle.evidence_text.specs.declared.types.EvidenceFault.TheVariants.{Version, Line, Length, OutOfMemory}
 use Rattle.evidence_text.specs.declared.types.Removed.{Removed}
 use Rattle.evidence_text.specs.FirstLines.{row_of}
-use Rattle.evidence_text.specs.Reading.{Read, ◌>>=◌, next_line, entries, any_order, rows, Fails}
+use Rattle.evidence_text.specs.Reading.{Read, ◌>>=◌, next_line, entries, any_order, rows, FailsRead}
 use Rattle.evidence_text.specs.Inside.Loops.{with_front}
 
 abbrev Rows : Type 0
@@ -37,7 +37,7 @@ row_goes_on front first count before at after next row steps list total more hea
     sym one ∙ so_far
 
 fails_at : (fault : EvidenceFault) {A B : Type 0} (part : Result A EvidenceFault) (total : Result B EvidenceFault)
-    → ((f : EvidenceFault) → part ≡ Err f → total ≡ Err f) → Fails fault part → Fails fault total
+    → ((f : EvidenceFault) → part ≡ Err f → total ≡ Err f) → FailsRead fault part → FailsRead fault total
 fails_at OutOfMemory part total same fails = tt
 fails_at Version part total same fails = same Version fails
 fails_at (Line number) part total same fails = same (Line number) fails
@@ -45,8 +45,8 @@ fails_at (Length number) part total same fails = same (Length number) fails
 
 -- no row
 pub row_fails : (fault : EvidenceFault) (front : Rows) (first count : ℕ) (before : Option ℕ) (at : At) (total : Read Rows)
-    → length front < count → Fails fault (next_line (row_of before) (Length first) at)
-    → with_front front (rows first (count - length front) before at) ≡ total → Fails fault total
+    → length front < count → FailsRead fault (next_line (row_of before) (Length first) at)
+    → with_front front (rows first (count - length front) before at) ≡ total → FailsRead fault total
 unfolding rows
 row_fails fault front first count before at total more fails so_far =
     fails_at fault (next_line (row_of before) (Length first) at) total (λ f e. by f e) fails
@@ -60,8 +60,8 @@ row_fails fault front first count before at total more fails so_far =
 -- a row, but not its steps
 pub steps_fail : (fault : EvidenceFault) (front : Rows) (first count : ℕ) (before : Option ℕ) (at after : At) (row steps : ℕ) (total : Read Rows)
     → length front < count → next_line (row_of before) (Length first) at ≡ Ok ((row, steps), after)
-    → Fails fault (entries (any_order step_of) first steps None after)
-    → with_front front (rows first (count - length front) before at) ≡ total → Fails fault total
+    → FailsRead fault (entries (any_order step_of) first steps None after)
+    → with_front front (rows first (count - length front) before at) ≡ total → FailsRead fault total
 unfolding rows
 steps_fail fault front first count before at after row steps total more head fails so_far =
     fails_at fault (entries (any_order step_of) first steps None after) total (λ f e. by f e) fails

@@ -23,9 +23,9 @@ use Rattle.evidence_text.specs.declared.types.EvidenceFault.TheVariants.{Version
 use Rattle.evidence_text.specs.declared.types.Kind.{Kind}
 use Rattle.evidence_text.specs.declared.types.Body.{Body}
 use Rattle.evidence_text.specs.declared.types.Evidence.{Evidence}
-use Rattle.evidence_text.specs.EvidenceText.{version_fields, kind_fields, section_lines, sided, omitted_list, lists_lines, body_lines, end_fields, evidence_lines, evidence_text, InOrder, HasText, IsValue, plain, plain_body}
+use Rattle.evidence_text.specs.EvidenceText.{version_fields, kind_fields, section_lines, of_side, omitted_list, lists_lines, body_lines, end_fields, evidence_lines, evidence_text, InOrder, HasText, IsEvidenceValue, plain, plain_body}
 use Rattle.evidence_text.specs.FirstLines.{version_of, kind_of, end_of, is_other_version}
-use Rattle.evidence_text.specs.Reading.{Read, ◌>>=◌, next_line, first_line, section, any_order, may_follow, if_follows, ordered_omitted, on_side, by_side, body_by, no_more, ended, lines_read, first_of, first_piece, text_read}
+use Rattle.evidence_text.specs.Reading.{Read, ◌>>=◌, next_line, first_line, section, any_order, may_follow, if_may_follow, ordered_omitted, on_side, by_side, body_by, no_more, ended, lines_read, first_of, first_piece, text_read}
 use Rattle.evidence_text.proofs.OptionLaws.{kind_is, kind_again, version_is, end_line_is}
 use Rattle.evidence_text.proofs.SectionLaws.{Bound, bound, ok_is, next_is, Again, next_again, IsForm, AllFit, IsSection, section_back, section_again, FitsAny, any_form, any_fit, any_parts}
 use Rattle.evidence_text.proofs.BodyLaws.{LineLaws, IsBody, body_back, body_again}
@@ -35,7 +35,7 @@ use Rattle.evidence_text.proofs.BodyLaws.{LineLaws, IsBody, body_back, body_agai
 abbrev pub FitsOmitted : Option SidedOmitted → SidedOmitted → Type 0
 FitsOmitted before o = (may_follow before o ≡ true) × ArePlaceNumbers o
 
-ordered_is : (before : Option SidedOmitted) (found : Option SidedOmitted) (o : SidedOmitted) → if_follows before found ≡ Some o → (found ≡ Some o) × (may_follow before o ≡ true)
+ordered_is : (before : Option SidedOmitted) (found : Option SidedOmitted) (o : SidedOmitted) → if_may_follow before found ≡ Some o → (found ≡ Some o) × (may_follow before o ≡ true)
 ordered_is before None o e = absurd cc
 ordered_is before (Some p) o e = by (may_follow before p) refl e
   where
@@ -48,7 +48,7 @@ omitted_form laws = record {
   back = λ before fields o e.
       let is = ordered_is before (omitted_of fields) o e in
       let b = laws.omitted.back fields o is.0 in (b.0, (is.1, b.2));
-  again = λ before o fits. ap (λ f. if_follows before f) (laws.omitted.again o tt fits.1) ∙ ap (λ b. cond b (Some o) None) fits.0;
+  again = λ before o fits. ap (λ f. if_may_follow before f) (laws.omitted.again o tt fits.1) ∙ ap (λ b. cond b (Some o) None) fits.0;
   line = λ before o fits. laws.omitted.line o tt fits.1;
 }
 
@@ -63,27 +63,27 @@ omitted_fit None (o ∷ os) order numbers = ((refl, numbers.0), omitted_fit (Som
 omitted_fit (Some before) (o ∷ os) order numbers = ((order.0, numbers.0), omitted_fit (Some o) os order.1 numbers.1)
 
 -- lists of both documents, one after the other, are told apart
-right_sides : (right : List Omitted) → by_side (map (sided side.Right) right) ≡ record { left = []; right = right }
+right_sides : (right : List Omitted) → by_side (map (of_side side.Right) right) ≡ record { left = []; right = right }
 right_sides [] = refl
 right_sides (o ∷ os) = ap (λ rest. on_side side.Right rest o) (right_sides os)
 
-both_sides : (left right : List Omitted) → by_side (map (sided side.Left) left ++ map (sided side.Right) right) ≡ record { left = left; right = right }
+both_sides : (left right : List Omitted) → by_side (map (of_side side.Left) left ++ map (of_side side.Right) right) ≡ record { left = left; right = right }
 both_sides [] right = right_sides right
 both_sides (o ∷ os) right = ap (λ rest. on_side side.Left rest o) (both_sides os right)
 
 -- these are all of RIGHT
 record AreRight (os : List SidedOmitted) : Type 0 where
-  all : os ≡ map (sided side.Right) (by_side os).right
+  all : os ≡ map (of_side side.Right) (by_side os).right
   left : (by_side os).left ≡ []
 
-right_more : (before next : Omitted) (s : Side) (os : List SidedOmitted) → omitted_before (sided side.Right before) (sided s next) ≡ true
-    → InOrder omitted_before (Some (sided s next)) os → ((o : Omitted) → InOrder omitted_before (Some (sided side.Right o)) os → AreRight os) → AreRight (sided s next ∷ os)
+right_more : (before next : Omitted) (s : Side) (os : List SidedOmitted) → omitted_before (of_side side.Right before) (of_side s next) ≡ true
+    → InOrder omitted_before (Some (of_side s next)) os → ((o : Omitted) → InOrder omitted_before (Some (of_side side.Right o)) os → AreRight os) → AreRight (of_side s next ∷ os)
 right_more before next side.Left os first order later = absurd cc
 right_more before next side.Right os first order later =
-    let rest = later next order in record { all = ap (λ l. sided side.Right next ∷ l) rest.all; left = rest.left }
+    let rest = later next order in record { all = ap (λ l. of_side side.Right next ∷ l) rest.all; left = rest.left }
 
 -- after one of RIGHT there are only those of RIGHT
-all_right : (before : Omitted) (os : List SidedOmitted) → InOrder omitted_before (Some (sided side.Right before)) os → AreRight os
+all_right : (before : Omitted) (os : List SidedOmitted) → InOrder omitted_before (Some (of_side side.Right before)) os → AreRight os
 all_right before [] order = record { all = refl; left = refl }
 all_right before (o ∷ os) order = right_more before o.omitted o.side os order.0 order.1 (λ next rest. all_right next os rest)
 
@@ -91,13 +91,13 @@ order_rest : (before : Option SidedOmitted) (o : SidedOmitted) (os : List SidedO
 order_rest None o os order = order
 order_rest (Some b) o os order = order.1
 
-side_more : (s : Side) (o : Omitted) (os : List SidedOmitted) → InOrder omitted_before (Some (sided s o)) os → omitted_list (by_side os) ≡ os
-    → omitted_list (by_side (sided s o ∷ os)) ≡ sided s o ∷ os
-side_more side.Left o os order later = ap (λ l. sided side.Left o ∷ l) later
+side_more : (s : Side) (o : Omitted) (os : List SidedOmitted) → InOrder omitted_before (Some (of_side s o)) os → omitted_list (by_side os) ≡ os
+    → omitted_list (by_side (of_side s o ∷ os)) ≡ of_side s o ∷ os
+side_more side.Left o os order later = ap (λ l. of_side side.Left o ∷ l) later
 side_more side.Right o os order later =
     let rest = all_right o os order in
-    ap (λ l. map (sided side.Left) l ++ (sided side.Right o ∷ map (sided side.Right) (by_side os).right)) rest.left
-    ∙ ap (λ l. sided side.Right o ∷ l) (sym rest.all)
+    ap (λ l. map (of_side side.Left) l ++ (of_side side.Right o ∷ map (of_side side.Right) (by_side os).right)) rest.left
+    ∙ ap (λ l. of_side side.Right o ∷ l) (sym rest.all)
 
 sides_back : (before : Option SidedOmitted) (os : List SidedOmitted) → InOrder omitted_before before os → omitted_list (by_side os) ≡ os
 sides_back before [] order = refl
@@ -148,7 +148,7 @@ lists_parts o n r more = simp append_assoc
 pub record IsWhole (lines : List Fields) (e : Evidence) : Type 0 where
   pub whole : lines ≡ evidence_lines e
   pub has : HasText e
-  pub is : IsValue e
+  pub is : IsEvidenceValue e
   pub same : plain e ≡ e
 
 pub lines_back : LineLaws → (at : At) (e : Evidence) → lines_read at ≡ Ok e → IsWhole at.lines e
@@ -197,7 +197,7 @@ lines_back laws at e eq =
       same = ap (λ x. record made { body = x }) bs.plain;
     })
 
-pub lines_again : LineLaws → (e : Evidence) → HasText e → IsValue e → lines_read (record { read = 0; lines = evidence_lines e }) ≡ Ok (plain e)
+pub lines_again : LineLaws → (e : Evidence) → HasText e → IsEvidenceValue e → lines_read (record { read = 0; lines = evidence_lines e }) ≡ Ok (plain e)
 unfolding lines_read
 lines_again laws e has is =
     let list = omitted_list e.omitted in

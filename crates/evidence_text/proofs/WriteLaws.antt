@@ -8,7 +8,7 @@ use Rattle.el_logic.specs.declared.types.Side.TheVariants as side
 use Rattle.ofn_axiom.specs.declared.types.SideOmitted.{SideOmitted}
 use Rattle.line_fields.specs.Lines.{Fields, line, text_of}
 use Rattle.evidence_lines.specs.Omitted.{omitted_fields}
-use Rattle.evidence_text.specs.EvidenceText.{sided, omitted_list}
+use Rattle.evidence_text.specs.EvidenceText.{of_side, omitted_list}
 
 -- one line before others
 pub line_more : (text : List ℕ) (first : Fields) (lines : List Fields) → (text ++ line first) ++ text_of lines ≡ text ++ text_of (first ∷ lines)
@@ -24,14 +24,14 @@ map-append f (x ∷ xs) ys = ap (λ l. f x ∷ l) (map-append f xs ys)
 
 -- the axioms that are left out: their number, and their lines
 pub omitted_count : (o : SideOmitted) → length (omitted_list o) ≡ length o.left + length o.right
-omitted_count o = omega (arith, length-append (map (sided side.Left) o.left) (map (sided side.Right) o.right), length-map o.left (sided side.Left), length-map o.right (sided side.Right))
+omitted_count o = omega (arith, length-append (map (of_side side.Left) o.left) (map (of_side side.Right) o.right), length-map o.left (of_side side.Left), length-map o.right (of_side side.Right))
 
 pub omitted_texts : (text : List ℕ) (o : SideOmitted)
-    → (text ++ text_of (map omitted_fields (map (sided side.Left) o.left))) ++ text_of (map omitted_fields (map (sided side.Right) o.right))
+    → (text ++ text_of (map omitted_fields (map (of_side side.Left) o.left))) ++ text_of (map omitted_fields (map (of_side side.Right) o.right))
     ≡ text ++ text_of (map omitted_fields (omitted_list o))
 omitted_texts text o =
-    lines_more text (map omitted_fields (map (sided side.Left) o.left)) (map omitted_fields (map (sided side.Right) o.right))
-    ∙ ap (λ l. text ++ text_of l) (sym (map-append omitted_fields (map (sided side.Left) o.left) (map (sided side.Right) o.right)))
+    lines_more text (map omitted_fields (map (of_side side.Left) o.left)) (map omitted_fields (map (of_side side.Right) o.right))
+    ∙ ap (λ l. text ++ text_of l) (sym (map-append omitted_fields (map (of_side side.Left) o.left) (map (of_side side.Right) o.right)))
 
 five_parts : (a b c d e : List ℕ) → (((a ++ b) ++ c) ++ d) ++ e ≡ a ++ (b ++ (c ++ (d ++ e)))
 five_parts a b c d e = simp append_assoc

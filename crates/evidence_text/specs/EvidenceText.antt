@@ -49,12 +49,12 @@ numbered word n = word ∷ decimal n ∷ []
 abbrev pub section_lines : {X : Type 0} → List ℕ → (X → Fields) → List X → List Fields
 section_lines word spell xs = numbered word (length xs) ∷ map spell xs
 
-abbrev pub sided : Side → Omitted → SidedOmitted
-sided s o = record { side = s; omitted = o }
+abbrev pub of_side : Side → Omitted → SidedOmitted
+of_side s o = record { side = s; omitted = o }
 
 -- the axioms that are left out, LEFT's first
 abbrev pub omitted_list : SideOmitted → List SidedOmitted
-omitted_list o = map (sided side.Left) o.left ++ map (sided side.Right) o.right
+omitted_list o = map (of_side side.Left) o.left ++ map (of_side side.Right) o.right
 
 abbrev pub row_fields : ℕ → ℕ → Fields
 row_fields row steps = codes "row" ∷ decimal row ∷ codes "steps" ∷ decimal steps ∷ []
@@ -73,14 +73,17 @@ lines_from spell place (x ∷ xs) = spell place x ∷ lines_from spell (place + 
 
 -- the size, then the classes and the properties in order
 abbrev pub model_lines : Interp → List Fields
-model_lines m = numbered (codes "model") m.size ∷ (lines_from class_fields 0 m.classes ++ lines_from property_fields 0 m.roles)
+model_lines m =
+    numbered (codes "model") m.size
+    ∷ (lines_from class_fields 0 m.classes ++ lines_from property_fields 0 m.roles)
 
 abbrev pub end_fields : Fields
 end_fields = codes "end" ∷ []
 
 abbrev pub body_lines : Body → List Fields
 body_lines (body.Diagnosis removed model journal) =
-    rows_lines removed ++ (model_lines model ++ section_lines (codes "journal") entry_fields journal.entries)
+    rows_lines removed
+    ++ (model_lines model ++ section_lines (codes "journal") entry_fields journal.entries)
 body_lines (body.Refusal steps) = section_lines (codes "steps") step_fields steps
 
 -- what is left out, the nodes and the roles
@@ -152,7 +155,7 @@ AreBodyNumbers (body.Diagnosis removed model journal) =
     × (length journal.entries < 2 ^ 64) × AllByRecursion AreEntryNumbers journal.entries
 AreBodyNumbers (body.Refusal steps) = (length steps < 2 ^ 64) × AllByRecursion AreStepNumbers steps
 
-pub record IsValue (e : Evidence) : Type 0 where
+pub record IsEvidenceValue (e : Evidence) : Type 0 where
   pub omitted_count : length (omitted_list e.omitted) < 2 ^ 64
   pub omitted : AllByRecursion ArePlaceNumbers (omitted_list e.omitted)
   pub nodes_count : length e.nodes < 2 ^ 64
@@ -166,7 +169,8 @@ abbrev pub without_room : EntriesSeen → EntriesSeen
 without_room journal = record { entries = journal.entries; room = 0 }
 
 abbrev pub plain_body : Body → Body
-plain_body (body.Diagnosis removed model journal) = body.Diagnosis removed model (without_room journal)
+plain_body (body.Diagnosis removed model journal) =
+    body.Diagnosis removed model (without_room journal)
 plain_body (body.Refusal steps) = body.Refusal steps
 
 -- the evidence, apart from the room of its journal

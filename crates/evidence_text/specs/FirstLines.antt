@@ -18,7 +18,8 @@ word_of word x fields = after_word word fields >>= λ rest. if_end rest x
 -- the version is this one
 abbrev pub version_of : Fields → Option (Unit {0})
 version_of fields =
-    after_word (codes "alod") fields >>= λ rest. after_word (codes "evidence") rest >>= word_of (codes "1") tt
+    after_word (codes "alod") fields >>= λ rest.
+    after_word (codes "evidence") rest >>= word_of (codes "1") tt
 
 -- one or more digits other than 1 alone
 abbrev pub is_other_number : List ℕ → Bool

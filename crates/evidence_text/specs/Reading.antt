@@ -32,7 +32,8 @@ abbrev pub Read : Type 0 → Type 0
 Read X = Result (X × At) EvidenceFault
 
 infixl 10 ◌>>=◌
-abbrev pub ◌>>=◌ : {A B : Type 0} → Result A EvidenceFault → (A → Result B EvidenceFault) → Result B EvidenceFault
+abbrev pub ◌>>=◌ : {A B : Type 0} → Result A EvidenceFault → (A → Result B EvidenceFault)
+    → Result B EvidenceFault
 (Ok x) >>= next = next x
 (Err fault) >>= next = Err fault
 
@@ -50,7 +51,8 @@ next_line form missing at = line_by form missing at.read at.lines
 
 -- so many entries of a section that begins at the line `first`; the form of an entry may depend on
 -- the one before it
-unfoldable pub entries : {X : Type 0} → (Option X → Fields → Option X) → ℕ → ℕ → Option X → At → Read (List X)
+unfoldable pub entries : {X : Type 0} → (Option X → Fields → Option X) → ℕ → ℕ → Option X → At
+    → Read (List X)
 entries form first zero before at = Ok ([], at)
 entries form first (suc count) before at = do
   x ← next_line (form before) (Length first) at
@@ -75,12 +77,12 @@ abbrev pub may_follow : Option SidedOmitted → SidedOmitted → Bool
 may_follow None o = true
 may_follow (Some before) o = omitted_before before o
 
-abbrev pub if_follows : Option SidedOmitted → Option SidedOmitted → Option SidedOmitted
-if_follows before None = None
-if_follows before (Some o) = if may_follow before o then Some o else None
+abbrev pub if_may_follow : Option SidedOmitted → Option SidedOmitted → Option SidedOmitted
+if_may_follow before None = None
+if_may_follow before (Some o) = if may_follow before o then Some o else None
 
 abbrev pub ordered_omitted : Option SidedOmitted → Fields → Option SidedOmitted
-ordered_omitted before fields = if_follows before (omitted_of fields)
+ordered_omitted before fields = if_may_follow before (omitted_of fields)
 
 abbrev pub on_side : Side → SideOmitted → Omitted → SideOmitted
 on_side side.Left rest o = record { left = o ∷ rest.left; right = rest.right }
@@ -191,12 +193,13 @@ text_read text =
     lines_read (record { read = 0; lines = lines_of text })
 
 -- what a call answers is what reading gives, seen by the view, unless memory ran out
-abbrev pub Fails : {Y : Type 0} → EvidenceFault → Result Y EvidenceFault → Type 0
-Fails OutOfMemory read = ⊤
-Fails Version read = read ≡ Err Version
-Fails (Line number) read = read ≡ Err (Line number)
-Fails (Length number) read = read ≡ Err (Length number)
+abbrev pub FailsRead : {Y : Type 0} → EvidenceFault → Result Y EvidenceFault → Type 0
+FailsRead OutOfMemory read = ⊤
+FailsRead Version read = read ≡ Err Version
+FailsRead (Line number) read = read ≡ Err (Line number)
+FailsRead (Length number) read = read ≡ Err (Length number)
 
-abbrev pub Gives : {X Y : Type 0} → (X → Y) → Result X EvidenceFault → Result Y EvidenceFault → Type 0
-Gives view (Ok x) read = read ≡ Ok (view x)
-Gives view (Err fault) read = Fails fault read
+abbrev pub GivesRead : {X Y : Type 0} → (X → Y) → Result X EvidenceFault → Result Y EvidenceFault
+    → Type 0
+GivesRead view (Ok x) read = read ≡ Ok (view x)
+GivesRead view (Err fault) read = FailsRead fault read

@@ -2,7 +2,7 @@
 
 ghost use Rattle.std.specs.Prelude.{◌≡◌, ℕ, List, Ok};
 ghost use Rattle.evidence_text.specs.declared.types.Evidence.{Evidence};
-ghost use Rattle.evidence_text.specs.EvidenceText.{evidence_text, HasText, IsValue, plain};
+ghost use Rattle.evidence_text.specs.EvidenceText.{evidence_text, HasText, IsEvidenceValue, plain};
 ghost use Rattle.evidence_text.specs.Reading.{text_read};
 
 use evidence_lines::{entry_lines, model_lines, node_lines, omitted_lines, role_lines, step_lines};
@@ -11,11 +11,12 @@ use line_fields::{lines_are_what_is_written, numbers_are_decimal};
 /// Evidence that has a text is read again from it, and a text is read only as evidence that has
 /// this text. So a text is that of one value at most, apart from the room of its journal.
 pub fn texts_are_what_is_read()
-    ensures again { (e : Evidence) → HasText e → IsValue e →
+    ensures again { (e : Evidence) → HasText e → IsEvidenceValue e →
         text_read (evidence_text e) ≡ Ok (plain e) }
     ensures back { (text : List ℕ) (e : Evidence) → text_read text ≡ Ok e →
-        (text ≡ evidence_text e) × HasText e × IsValue e }
-    ensures alone { (e other : Evidence) → HasText e → IsValue e → HasText other → IsValue other →
+        (text ≡ evidence_text e) × HasText e × IsEvidenceValue e }
+    ensures alone { (e other : Evidence) → HasText e → IsEvidenceValue e →
+        HasText other → IsEvidenceValue other →
         evidence_text e ≡ evidence_text other → plain e ≡ plain other }
 {
     numbers_are_decimal();

@@ -5,10 +5,10 @@ ghost use Rattle.line_fields.specs.Reading.{At};
 ghost use Rattle.evidence_lines.specs.StepReading.{step_of};
 ghost use Rattle.evidence_lines.specs.Journal.{entry_of};
 ghost use Rattle.evidence_lines.specs.Model.{members_of, pairs_of};
-ghost use Rattle.evidence_text.specs.EvidenceText.{plain, plain_body, HasText, IsValue, evidence_text};
+ghost use Rattle.evidence_text.specs.EvidenceText.{plain, plain_body, HasText, IsEvidenceValue, evidence_text};
 ghost use Rattle.evidence_text.specs.declared.types.Evidence.{Evidence};
 ghost use Rattle.evidence_text.specs.FirstLines.{version_of, kind_of, count_of, size_of, row_of, end_of};
-ghost use Rattle.evidence_text.specs.Reading.{next_line, first_line, section, entries, any_order, by_side, rows, removed_rows, run_at, diagnosis, refusal, body_by, ended, lines_read, text_read, first_piece, no_more, Gives};
+ghost use Rattle.evidence_text.specs.Reading.{next_line, first_line, section, entries, any_order, by_side, rows, removed_rows, run_at, diagnosis, refusal, body_by, ended, lines_read, text_read, first_piece, no_more, GivesRead};
 
 use crate::first_lines::{
     count_of, is_last, is_other_version, is_version, kind_of, row_of, size_of,
@@ -27,7 +27,7 @@ use ofn_axiom::{OmittedList, SideOmitted};
 use std::alloc::{AllocError, Global};
 
 fn count_line<'a>(word: &[u8], cursor: Cursor<'a>) -> Result<(u64, Cursor<'a>), EvidenceFault>
-    ensures count { Gives (λ x. x) result (first_line (count_of word.now) cursor.entry) }
+    ensures count { GivesRead (λ x. x) result (first_line (count_of word.now) cursor.entry) }
     ensures read { IfOk result (λ x. x.1.read ≡ cursor.entry.read + 1) }
 {
     let Some((fields, next)) = cursor.next() else {
@@ -44,7 +44,7 @@ fn count_line<'a>(word: &[u8], cursor: Cursor<'a>) -> Result<(u64, Cursor<'a>), 
 }
 
 fn kind_line(cursor: Cursor<'_>) -> Result<(Kind, Cursor<'_>), EvidenceFault>
-    ensures { Gives (λ x. x) result (first_line kind_of cursor.entry) }
+    ensures { GivesRead (λ x. x) result (first_line kind_of cursor.entry) }
 {
     let Some((fields, next)) = cursor.next() else {
         return Err(EvidenceFault::Length {
@@ -60,7 +60,7 @@ fn kind_line(cursor: Cursor<'_>) -> Result<(Kind, Cursor<'_>), EvidenceFault>
 }
 
 fn size_line(cursor: Cursor<'_>) -> Result<(u32, Cursor<'_>), EvidenceFault>
-    ensures { Gives (λ x. x) result (first_line size_of cursor.entry) }
+    ensures { GivesRead (λ x. x) result (first_line size_of cursor.entry) }
 {
     let Some((fields, next)) = cursor.next() else {
         return Err(EvidenceFault::Length {
@@ -80,7 +80,8 @@ fn row_line<'a>(
     before: Option<u32>,
     cursor: Cursor<'a>,
 ) -> Result<((u32, u64), Cursor<'a>), EvidenceFault>
-    ensures { Gives (λ x. x) result (next_line (row_of before) (EvidenceFault.Length first) cursor.entry) }
+    ensures { let missing = EvidenceFault.Length first in
+        GivesRead (λ x. x) result (next_line (row_of before) missing cursor.entry) }
 {
     let Some((fields, next)) = cursor.next() else {
         return Err(EvidenceFault::Length { number: first });
@@ -99,7 +100,7 @@ fn section<'a, X: LineEntry>(
     word: &[u8],
     cursor: Cursor<'a>,
 ) -> Result<(Vec<X>, Cursor<'a>), EvidenceFault>
-    ensures { Gives (λ x. (x.0.items, x.1)) result (section word.now X.form cursor.entry) }
+    ensures { GivesRead (λ x. (x.0.items, x.1)) result (section word.now X.form cursor.entry) }
 {
     let (count, at) = count_line(word, cursor)?;
     let first = at.read();
@@ -112,7 +113,7 @@ fn rows<'a>(
     count: u64,
     cursor: Cursor<'a>,
 ) -> Result<(Vec<Removed>, Cursor<'a>), EvidenceFault>
-    ensures { Gives (λ x. (x.0.items, x.1)) result (rows first count None cursor.entry) }
+    ensures { GivesRead (λ x. (x.0.items, x.1)) result (rows first count None cursor.entry) }
 {
     let mut removed = Vec::new(alloc);
     let mut before = None;
@@ -133,7 +134,7 @@ fn removed_rows<'a>(
     alloc: Global,
     cursor: Cursor<'a>,
 ) -> Result<(Vec<Removed>, Cursor<'a>), EvidenceFault>
-    ensures { Gives (λ x. (x.0.items, x.1)) result (removed_rows cursor.entry) }
+    ensures { GivesRead (λ x. (x.0.items, x.1)) result (removed_rows cursor.entry) }
 {
     let (count, at) = count_line(b"removed", cursor)?;
     let first = at.read();
@@ -187,7 +188,7 @@ fn journal_of(alloc: Global, list: &[Entry]) -> Result<Entries, AllocError>
 
 #[tactic(auto, unfolding(crate::specs::Reading::diagnosis))]
 fn diagnosis<'a>(alloc: Global, cursor: Cursor<'a>) -> Result<(Body, Cursor<'a>), EvidenceFault>
-    ensures { Gives (λ x. (plain_body x.0, x.1)) result (diagnosis cursor.entry) }
+    ensures { GivesRead (λ x. (plain_body x.0, x.1)) result (diagnosis cursor.entry) }
 {
     let (removed, at) = removed_rows(alloc, cursor)?;
     let (size, at) = size_line(at)?;
@@ -209,7 +210,7 @@ fn diagnosis<'a>(alloc: Global, cursor: Cursor<'a>) -> Result<(Body, Cursor<'a>)
 
 #[tactic(auto, unfolding(crate::specs::Reading::refusal))]
 fn refusal<'a>(alloc: Global, cursor: Cursor<'a>) -> Result<(Body, Cursor<'a>), EvidenceFault>
-    ensures { Gives (λ x. (plain_body x.0, x.1)) result (refusal cursor.entry) }
+    ensures { GivesRead (λ x. (plain_body x.0, x.1)) result (refusal cursor.entry) }
 {
     let (steps, at) = section::<Step>(alloc, b"steps", cursor)?;
     let body = Body::Refusal {
@@ -223,7 +224,7 @@ fn body_by<'a>(
     kind: Kind,
     cursor: Cursor<'a>,
 ) -> Result<(Body, Cursor<'a>), EvidenceFault>
-    ensures { Gives (λ x. (plain_body x.0, x.1)) result (body_by kind cursor.entry) }
+    ensures { GivesRead (λ x. (plain_body x.0, x.1)) result (body_by kind cursor.entry) }
 {
     match kind {
         Kind::Diagnosis => diagnosis(alloc, cursor),
@@ -247,7 +248,8 @@ fn by_side(alloc: Global, list: &[SidedOmitted]) -> Result<SideOmitted, AllocErr
 }
 
 fn version_line(cursor: Cursor<'_>) -> Result<Cursor<'_>, EvidenceFault>
-    ensures { Gives (λ x. (tt, x)) result (next_line version_of (EvidenceFault.Line 1) cursor.entry) }
+    ensures { let missing = EvidenceFault.Line 1 in
+        GivesRead (λ x. (tt, x)) result (next_line version_of missing cursor.entry) }
 {
     let Some((fields, next)) = cursor.next() else {
         return Err(EvidenceFault::Line { number: 1 });
@@ -262,7 +264,7 @@ fn version_line(cursor: Cursor<'_>) -> Result<Cursor<'_>, EvidenceFault>
 }
 
 fn end_line(cursor: Cursor<'_>) -> Result<Cursor<'_>, EvidenceFault>
-    ensures { Gives (λ x. (tt, x)) result (first_line end_of cursor.entry) }
+    ensures { GivesRead (λ x. (tt, x)) result (first_line end_of cursor.entry) }
 {
     let Some((fields, next)) = cursor.next() else {
         return Err(EvidenceFault::Length {
@@ -279,7 +281,7 @@ fn end_line(cursor: Cursor<'_>) -> Result<Cursor<'_>, EvidenceFault>
 }
 
 fn ended(evidence: Evidence, cursor: Cursor<'_>) -> Result<Evidence, EvidenceFault>
-    ensures { Gives plain result (ended (plain evidence) cursor.entry) }
+    ensures { GivesRead plain result (ended (plain evidence) cursor.entry) }
 {
     let at = end_line(cursor)?;
     let Some((_, after)) = at.next() else {
@@ -292,7 +294,7 @@ fn ended(evidence: Evidence, cursor: Cursor<'_>) -> Result<Evidence, EvidenceFau
 
 #[tactic(auto, unfolding(crate::specs::Reading::lines_read))]
 fn lines_read(alloc: Global, cursor: Cursor<'_>) -> Result<Evidence, EvidenceFault>
-    ensures { Gives plain result (lines_read cursor.entry) }
+    ensures { GivesRead plain result (lines_read cursor.entry) }
 {
     let at = version_line(cursor)?;
     let (kind, at) = kind_line(at)?;
@@ -322,7 +324,7 @@ fn first_piece(text: &[u8]) -> &[u8]
 
 #[tactic(auto, unfolding(crate::specs::Reading::text_read))]
 fn read(alloc: Global, bytes: &[u8]) -> Result<Evidence, EvidenceFault>
-    ensures { Gives plain result (text_read bytes.now) }
+    ensures { GivesRead plain result (text_read bytes.now) }
 {
     if is_other_version(Fields::of(first_piece(bytes))) {
         return Err(EvidenceFault::Version);
@@ -332,10 +334,10 @@ fn read(alloc: Global, bytes: &[u8]) -> Result<Evidence, EvidenceFault>
 
 /// Reads evidence, or answers the first fault of the text.
 pub fn read_evidence(alloc: Global, bytes: &[u8]) -> Result<Evidence, EvidenceFault>
-    ensures exact { Gives plain result (text_read bytes.now) }
+    ensures exact { GivesRead plain result (text_read bytes.now) }
     ensures found { IfOk result (λ e. HasText e × (bytes.now ≡ evidence_text e)) }
-    ensures only { (e : Evidence) → HasText e → IsValue e → bytes.now ≡ evidence_text e →
-        Gives plain result (Ok (plain e)) }
+    ensures only { (e : Evidence) → HasText e → IsEvidenceValue e → bytes.now ≡ evidence_text e →
+        GivesRead plain result (Ok (plain e)) }
 {
     texts_are_what_is_read();
     read(alloc, bytes)

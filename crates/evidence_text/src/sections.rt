@@ -3,7 +3,7 @@
 ghost use Rattle.std.specs.Prelude.{◌≡◌, ◌++◌, ℕ, List, Option, None, IfOk, OnOk};
 ghost use Rattle.std.specs.Option.{option_copied};
 ghost use Rattle.line_fields.specs.Lines.{line};
-ghost use Rattle.evidence_text.specs.Reading.{entries, Gives};
+ghost use Rattle.evidence_text.specs.Reading.{entries, GivesRead};
 
 use crate::EvidenceFault;
 use line_fields::{Cursor, Fields};
@@ -35,7 +35,7 @@ pub fn entries<'a, X: LineEntry>(
     cursor: Cursor<'a>,
 ) -> Result<(Vec<X>, Cursor<'a>), EvidenceFault>
     ensures { let found = entries X.form first count None cursor.entry in
-        Gives (λ x. (x.0.items, x.1)) result found }
+        GivesRead (λ x. (x.0.items, x.1)) result found }
 {
     let mut items = Vec::new(alloc);
     let mut at = cursor;

@@ -27,6 +27,85 @@ const WORKED: [&[u8]; 19] = [
     b"end",
 ];
 
+// Each step, and each line of a node, a role and a place.
+const REFUSAL: [&[u8]; 32] = [
+    b"alod evidence 1",
+    b"refusal both",
+    b"omitted 3",
+    b"left 1 2 Import",
+    b"left 2 1 HasKey",
+    b"right 1 1 Import",
+    b"nodes 5",
+    b"top",
+    b"bottom",
+    b"class <>",
+    b"and 0 1",
+    b"some 4294967295 0",
+    b"roles 3",
+    b"property <p\xc3\xa9>",
+    b"part left 1 2",
+    b"part right 4294967295 3",
+    b"steps 14",
+    b"sub 1 1 self",
+    b"sub 1 0 top",
+    b"sub 1 2 incl 1 left 1",
+    b"sub 1 2 left 1",
+    b"sub 1 2 right 1",
+    b"sub 1 2 both 1 2",
+    b"link 1 0 2 out 18446744073709551615",
+    b"sub 1 2 into 1 2",
+    b"sub 1 1 void 1 2",
+    b"link 1 0 2 role 1 right 4",
+    b"link 1 0 2 chain 1 2 left 3",
+    b"link 1 0 1 refl left 2",
+    b"sub 1 2 dom 1 row 7 2",
+    b"sub 1 1 disj 1 2 row 7 1",
+    b"end",
+];
+
+// Each event with each of its replies.
+const DIAGNOSIS: [&[u8]; 29] = [
+    b"alod evidence 1",
+    b"diagnosis",
+    b"omitted 0",
+    b"nodes 0",
+    b"roles 0",
+    b"removed 2",
+    b"row 0 steps 0",
+    b"row 4294967295 steps 0",
+    b"model 4294967295",
+    b"class 2",
+    b"class 3 0 5 4294967295",
+    b"role 0",
+    b"role 1 0 1 0 2 1 0",
+    b"journal 14",
+    b"1 take 2 seen 3",
+    b"1 take 2 over",
+    b"1 front 2 3",
+    b"1 front done",
+    b"1 no 2 3 marked",
+    b"1 no 2 3 late",
+    b"1 yes 2 3 kept",
+    b"1 yes 2 3 noted",
+    b"1 yes 2 3 far",
+    b"1 yes 2 3 late",
+    b"1 yes 2 3 stale 4",
+    b"1 block 2 5 3 kept",
+    b"4294967295 front done",
+    b"0 front done",
+    b"end",
+];
+
+// These lines, each ended.
+fn text_of(alloc: Global, lines: &[&[u8]]) -> Result<Bytes, Fail> {
+    let mut text = Bytes::new(alloc);
+    for line in lines {
+        text.append(line)?;
+        text.append(b"\n")?;
+    }
+    Ok(text)
+}
+
 // What is written of the evidence that a text is.
 fn again(alloc: Global, text: &[u8]) -> Result<Bytes, Fail> {
     let evidence = read_evidence(alloc, text)?;
@@ -43,38 +122,70 @@ fn cut_texts_have_their_fault(rt: HostRuntime) -> Result<(), Fail> {
     // The section that is not full after each line, or the last line.
     let sections = [1, 2, 3, 4, 4, 4, 7, 8, 9, 9, 9, 12, 13, 14, 15, 15, 15, 18];
     let mut text = Bytes::new(alloc);
-    assert_eq!(rt;
-        fault(alloc, text.as_slice()),
-        Some(EvidenceFault::Line { number: 1 })
-    );
     let mut number = 0u64;
     for (line, section) in WORKED.iter().zip(sections) {
         number = number.wrapping_add(1);
-        text.append(line)?;
         let open = Some(EvidenceFault::Line { number });
+        let (front, back) = line.split_at(line.len() / 2);
+        text.append(front)?;
+        assert_eq!(rt; fault(alloc, text.as_slice()), open, "in line {number}");
+        text.append(back)?;
         assert_eq!(rt; fault(alloc, text.as_slice()), open, "open line {number}");
         text.append(b"\n")?;
         let cut = Some(EvidenceFault::Length { number: section });
         assert_eq!(rt; fault(alloc, text.as_slice()), cut, "after line {number}");
     }
-    text.append(b"end\n")?;
-    assert_eq!(rt; again(alloc, text.as_slice())?.as_slice(), text.as_slice());
-    text.append(b"\n")?;
-    assert_eq!(rt;
-        fault(alloc, text.as_slice()),
-        Some(EvidenceFault::Line { number: 20 })
-    );
+    Ok(())
+}
+
+#[test]
+fn ends_have_their_fault(rt: HostRuntime) -> Result<(), Fail> {
+    let alloc = rt.alloc();
+    let first = Some(EvidenceFault::Line { number: 1 });
+    assert_eq!(rt; fault(alloc, b""), first, "no text");
+    let mut text = text_of(alloc, &WORKED[..18])?;
+    text.append(b"end")?;
+    let open = Some(EvidenceFault::Line { number: 19 });
+    assert_eq!(rt; fault(alloc, text.as_slice()), open, "open end");
+    text.append(b"\n\n\n")?;
+    let after = Some(EvidenceFault::Line { number: 20 });
+    assert_eq!(rt; fault(alloc, text.as_slice()), after, "lines after the end");
+    Ok(())
+}
+
+#[test]
+fn changed_lines_have_their_fault(rt: HostRuntime) -> Result<(), Fail> {
+    let rows: [(usize, &[u8], EvidenceFault); 5] = [
+        (0, b"alod evidence 9", EvidenceFault::Version),
+        (1, b"refusal", EvidenceFault::Line { number: 2 }),
+        (3, b"nodes 4", EvidenceFault::Line { number: 8 }),
+        (
+            3,
+            b"nodes 18446744073709551615",
+            EvidenceFault::Line { number: 8 },
+        ),
+        (14, b"journal 4", EvidenceFault::Line { number: 19 }),
+    ];
+    for (place, line, wanted) in rows {
+        let mut lines = WORKED;
+        lines[place] = line;
+        let text = text_of(rt.alloc(), &lines)?;
+        assert_eq!(rt;
+            fault(rt.alloc(), text.as_slice()),
+            Some(wanted),
+            "{line:?}"
+        );
+    }
     Ok(())
 }
 
 #[test]
 fn each_form_is_read_and_written(rt: HostRuntime) -> Result<(), Fail> {
-    let texts: [&[u8]; 2] = [
-        b"alod evidence 1\nrefusal both\nomitted 3\nleft 1 2 Import\nleft 2 1 HasKey\nright 1 1 Import\nnodes 5\ntop\nbottom\nclass <>\nand 0 1\nsome 4294967295 0\nroles 3\nproperty <p\xc3\xa9>\npart left 1 2\npart right 4294967295 3\nsteps 14\nsub 1 1 self\nsub 1 0 top\nsub 1 2 incl 1 left 1\nsub 1 2 left 1\nsub 1 2 right 1\nsub 1 2 both 1 2\nlink 1 0 2 out 18446744073709551615\nsub 1 2 into 1 2\nsub 1 1 void 1 2\nlink 1 0 2 role 1 right 4\nlink 1 0 2 chain 1 2 left 3\nlink 1 0 1 refl left 2\nsub 1 2 dom 1 row 7 2\nsub 1 1 disj 1 2 row 7 1\nend\n",
-        b"alod evidence 1\ndiagnosis\nomitted 0\nnodes 0\nroles 0\nremoved 2\nrow 0 steps 0\nrow 4294967295 steps 0\nmodel 4294967295\nclass 2\nclass 3 0 5 4294967295\nrole 0\nrole 1 0 1 0 2 1 0\njournal 14\n1 take 2 seen 3\n1 take 2 over\n1 front 2 3\n1 front done\n1 no 2 3 marked\n1 no 2 3 late\n1 yes 2 3 kept\n1 yes 2 3 noted\n1 yes 2 3 far\n1 yes 2 3 late\n1 yes 2 3 stale 4\n1 block 2 5 3 kept\n4294967295 front done\n0 front done\nend\n",
-    ];
-    for text in texts {
-        assert_eq!(rt; again(rt.alloc(), text)?.as_slice(), text);
+    let texts: [&[&[u8]]; 3] = [&WORKED, &REFUSAL, &DIAGNOSIS];
+    for lines in texts {
+        let text = text_of(rt.alloc(), lines)?;
+        let written = again(rt.alloc(), text.as_slice())?;
+        assert_eq!(rt; written.as_slice(), text.as_slice());
     }
     Ok(())
 }

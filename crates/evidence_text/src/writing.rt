@@ -6,7 +6,7 @@ ghost use Rattle.line_fields.specs.Lines.{line, text_of};
 ghost use Rattle.evidence_lines.specs.Omitted.{omitted_fields};
 ghost use Rattle.evidence_lines.specs.Model.{class_fields, property_fields};
 ghost use Rattle.evidence_lines.specs.Steps.{step_fields};
-ghost use Rattle.evidence_text.specs.EvidenceText.{version_fields, part_word, kind_fields, numbered, section_lines, sided, omitted_list, row_fields, removed_lines, rows_lines, lines_from, model_lines, end_fields, body_lines, lists_lines, evidence_lines, evidence_text, HasText};
+ghost use Rattle.evidence_text.specs.EvidenceText.{version_fields, part_word, kind_fields, numbered, section_lines, of_side, omitted_list, row_fields, removed_lines, rows_lines, lines_from, model_lines, end_fields, body_lines, lists_lines, evidence_lines, evidence_text, HasText};
 
 use crate::sections::LineEntry;
 use crate::{Body, Evidence, Kind, Removed};
@@ -44,7 +44,8 @@ fn put_entries<X: LineEntry>(text: &mut Bytes, items: &[X]) -> Result<(), AllocE
 
 #[tactic(auto, using(crate::proofs::WriteLaws::line_more))]
 fn put_section<X: LineEntry>(text: &mut Bytes, word: &[u8], items: &[X]) -> Result<(), AllocError>
-    ensures { OnOk result (text.new ≡ text.old ++ text_of (section_lines word.now X.spell items.now)) }
+    ensures { OnOk result
+        (text.new ≡ text.old ++ text_of (section_lines word.now X.spell items.now)) }
 {
     put_numbered(text, word, items.len() as u64)?;
     put_entries(text, items)
@@ -53,7 +54,7 @@ fn put_section<X: LineEntry>(text: &mut Bytes, word: &[u8], items: &[X]) -> Resu
 #[tactic(auto, using(crate::proofs::WriteLaws::line_more))]
 fn put_side(text: &mut Bytes, side: Side, list: &[Omitted]) -> Result<(), AllocError>
     ensures { OnOk result
-        (text.new ≡ text.old ++ text_of (map omitted_fields (map (sided side) list.now))) }
+        (text.new ≡ text.old ++ text_of (map omitted_fields (map (of_side side) list.now))) }
 {
     for omitted in list {
         put_omitted(
@@ -69,8 +70,8 @@ fn put_side(text: &mut Bytes, side: Side, list: &[Omitted]) -> Result<(), AllocE
 
 #[tactic(auto, using(crate::proofs::WriteLaws::line_more, crate::proofs::WriteLaws::omitted_count, crate::proofs::WriteLaws::omitted_texts))]
 fn put_left_out(text: &mut Bytes, omitted: &SideOmitted) -> Result<(), AllocError>
-    ensures { let list = omitted_list omitted.now in
-        OnOk result (text.new ≡ text.old ++ text_of (section_lines (codes "omitted") omitted_fields list)) }
+    ensures { let lines = section_lines (codes "omitted") omitted_fields (omitted_list omitted.now) in
+        OnOk result (text.new ≡ text.old ++ text_of lines) }
 {
     let left = omitted.left.as_slice();
     let right = omitted.right.as_slice();
@@ -131,7 +132,8 @@ fn put_classes(text: &mut Bytes, classes: &[Numbers]) -> Result<(), AllocError>
 
 #[tactic(auto, using(crate::proofs::WriteLaws::line_more, crate::proofs::WriteLaws::lines_more))]
 fn put_properties(text: &mut Bytes, roles: &[Pairs]) -> Result<(), AllocError>
-    ensures { OnOk result (text.new ≡ text.old ++ text_of (lines_from property_fields 0 roles.now)) }
+    ensures { OnOk result
+        (text.new ≡ text.old ++ text_of (lines_from property_fields 0 roles.now)) }
 {
     for (place, pairs) in roles.iter().enumerate() {
         put_pairs(text, place as u64, pairs.as_slice())?;

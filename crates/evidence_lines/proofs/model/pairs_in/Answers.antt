@@ -1,4 +1,4 @@
-use Rattle.std.proofs.Common.{sym, ◌∙◌, true}
+use Rattle.std.proofs.Common.{sym, ◌∙◌}
 use Rattle.evidence_lines.proofs.FrontLaws.{pair_more}
 use Rattle.evidence_lines.proofs.model.pairs_in.Goals as goal
 

@@ -1,4 +1,4 @@
-use Rattle.std.proofs.Common.{◌≡◌, List, ℕ, [], ◌∷◌, ◌++◌, ap, ◌∙◌, refl}
+use Rattle.std.proofs.Common.{◌≡◌, [], ◌∷◌, ◌++◌, ap, ◌∙◌, refl}
 use Rattle.line_fields.specs.Lines.{joined, spaced, line}
 use Rattle.evidence_lines.specs.Steps.{fact_fields, rule_word, names_first, names_second, premise_fields, source_fields, step_fields}
 use Rattle.evidence_lines.proofs.PutLaws.{step_parts, on_ok}
