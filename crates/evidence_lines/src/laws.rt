@@ -1,0 +1,63 @@
+//! Laws on lines: functions that do nothing and whose contracts are the laws.
+
+ghost use Rattle.std.specs.Prelude.{ℕ, ◌+◌, ◌<◌, ◌^◌, ⊤, None};
+ghost use Rattle.line_fields.specs.Lines.{Fields};
+ghost use Rattle.evidence_lines.specs.LineLaw.{AreLinesOf};
+ghost use Rattle.evidence_lines.specs.Steps.{step_fields, HasStepLine, AreStepNumbers};
+ghost use Rattle.evidence_lines.specs.StepReading.{step_of};
+ghost use Rattle.evidence_lines.specs.Names.{node_fields, role_fields, HasNodeLine, HasRoleLine, node_of, role_of, IsNodeValue, IsRoleValue};
+ghost use Rattle.evidence_lines.specs.Omitted.{omitted_fields, omitted_of, ArePlaceNumbers};
+ghost use Rattle.evidence_lines.specs.Journal.{entry_fields, HasEntryLine, entry_of, AreEntryNumbers};
+ghost use Rattle.evidence_lines.specs.Model.{class_fields, property_fields, HasClassLine, HasPropertyLine, members_of, pairs_of, AreElementNumbers, ArePairNumbers};
+
+use byte_words::fronts_are_left_out;
+use line_fields::numbers_are_decimal;
+use ofn_heads::names_of_heads_are_told_apart;
+
+/// Lines of steps are read as what they spell.
+pub fn step_lines()
+    ensures { AreLinesOf step_of step_fields HasStepLine AreStepNumbers }
+{
+    numbers_are_decimal();
+}
+
+/// Lines of nodes are read as what they spell.
+pub fn node_lines()
+    ensures { AreLinesOf node_of node_fields HasNodeLine IsNodeValue }
+{
+    numbers_are_decimal();
+    fronts_are_left_out();
+}
+
+/// Lines of roles are read as what they spell.
+pub fn role_lines()
+    ensures { AreLinesOf role_of role_fields HasRoleLine IsRoleValue }
+{
+    numbers_are_decimal();
+    fronts_are_left_out();
+}
+
+/// Lines of axioms that are left out are read as what they spell.
+pub fn omitted_lines()
+    ensures { AreLinesOf omitted_of omitted_fields (λ o. ⊤) ArePlaceNumbers }
+{
+    numbers_are_decimal();
+    names_of_heads_are_told_apart();
+}
+
+/// Lines of journals are read as what they spell.
+pub fn entry_lines()
+    ensures { AreLinesOf entry_of entry_fields HasEntryLine AreEntryNumbers }
+{
+    numbers_are_decimal();
+}
+
+/// Lines of a model are read as what they spell.
+pub fn model_lines()
+    ensures classes { (place : ℕ) → AreLinesOf (members_of place) (class_fields place)
+        (HasClassLine place) AreElementNumbers }
+    ensures properties { (place : ℕ) → AreLinesOf (pairs_of place) (property_fields place)
+        (HasPropertyLine place) ArePairNumbers }
+{
+    numbers_are_decimal();
+}

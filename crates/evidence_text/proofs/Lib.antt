@@ -1,0 +1,11 @@
+pub mod EntryLaws
+pub mod OptionLaws
+pub mod SectionLaws
+pub mod WholeLaws
+pub mod RowLaws
+pub mod WriteLaws
+pub mod BodyLaws
+pub mod TextLaws
+pub mod FormLaws
+pub mod BytesLaws
+pub mod FoundLaws

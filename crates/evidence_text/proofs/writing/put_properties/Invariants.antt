@@ -1,0 +1,9 @@
+use Rattle.std.proofs.Common.{◌≡◌, ◌++◌, map, drop}
+use Rattle.line_fields.specs.Lines.{text_of}
+use Rattle.evidence_lines.specs.Model.{property_fields}
+use Rattle.evidence_text.specs.EvidenceText.{lines_from}
+use Rattle.evidence_text.proofs.writing.put_properties.Given as goal
+
+abbrev pub invariant-loop-place : goal.invariant-loop-place
+invariant-loop-place l =
+    l.text ++ text_of (lines_from property_fields l.place (drop l.place l.roles)) ≡ l.fn.text ++ text_of (lines_from property_fields 0 l.roles)

@@ -1,0 +1,4 @@
+pub mod EvidenceText
+pub mod FirstLines
+pub mod Reading
+pub mod Inside

@@ -1,0 +1,7 @@
+use Rattle.std.proofs.Common.{◌≡◌, ◌+◌, ◌==◌, drop}
+use Rattle.std.specs.List.{position_or_len}
+use Rattle.line_fields.proofs.pieces.place_of.Given as goal
+
+abbrev pub invariant-loop-at : goal.invariant-loop-at
+invariant-loop-at l =
+    l.at + position_or_len (λ b. b == l.part) (drop l.at l.text) ≡ position_or_len (λ b. b == l.part) l.text
