@@ -1,5 +1,6 @@
 -- What a case has.
 use Rattle.std.specs.Prelude.{◌≡◌, ℕ, ◌+◌, ◌^◌, ◌<◌, ◌≤◌, List, [], map, length, slice_index_or, slice_index, All, Contains, ◌⊎◌, ⊤}
+use Rattle.std.specs.List.Sorted.{IsStrictlyIncreasing}
 use Rattle.el_logic.specs.declared.types.Expr.{Expr}
 use Rattle.el_logic.specs.declared.types.Expr.TheVariants as E
 use Rattle.el_logic.specs.declared.types.Axiom.{Axiom}
@@ -87,6 +88,11 @@ theory_of case = record { left = case.store.left; right = case.store.right; rows
 abbrev pub IsMustHave : CaseView → ℕ → Type 0
 IsMustHave case node = (node ≡ 0)
     ⊎ ((class : ℕ) × (class < case.classes) × (node ≡ class + 2) × ¬ (Contains case.excused node))
+
+-- the ranks ascend, and are those of rows
+pub record AreRanksOf (case : CaseView) (ranks : List ℕ) : Type 0 where
+  pub ascending : IsStrictlyIncreasing ranks
+  pub below : All (λ rank. rank < length case.order) ranks
 
 -- the nodes are those of classes, in ascending order
 pub record IsExcuse (case : CaseView) (nodes : List ℕ) : Type 0 where

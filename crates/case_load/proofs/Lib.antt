@@ -8,3 +8,4 @@ pub mod Readings
 pub mod DocumentLaws
 pub mod InputLaws
 pub mod TableLaws
+pub mod AnswerLaws

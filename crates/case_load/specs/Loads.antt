@@ -103,3 +103,11 @@ pub record IsLoaded (texts : Inputs) (mode : Mode) (limits : Limits)
   pub table : Table
   pub read : AllRead texts mode limits documents table
   pub made : IsCaseOf limits documents table loaded
+
+-- both have the same case, and say the same of it
+pub record SayTheSame (one other : Loaded) : Type 0 where
+  pub case : arc_value one.case ≡ arc_value other.case
+  pub names : one.names ≡ other.names
+  pub same_table : one.table ≡ other.table
+  pub omitted : one.omitted ≡ other.omitted
+  pub inert : one.inert ≡ other.inert

@@ -6,6 +6,8 @@ mod fault;
 mod files;
 mod laws;
 mod rows;
+#[cfg(test)]
+mod shapes;
 mod table;
 #[cfg(test)]
 mod tests;
@@ -14,5 +16,5 @@ mod texts;
 pub use documents::Documents;
 pub use fault::{LimitKind, LoadFault};
 pub use files::load;
-pub use laws::readings_are_over_their_names;
+pub use laws::{readings_are_over_their_names, texts_have_one_case_or_first_fault};
 pub use texts::{Loaded, assemble};

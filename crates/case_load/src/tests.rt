@@ -4,6 +4,7 @@ use crate::{LimitKind, LoadFault, Loaded, assemble, load};
 use el_logic::Side;
 use io_edge::{MemFolder, Role};
 use ofn_axiom::{DocKind, Mode};
+use ofn_heads::HeadId;
 use sssom_rows::TableFault;
 use std::alloc::Global;
 use std::test::Fail;
@@ -29,18 +30,26 @@ const USED: &str = "Prefix(:=<http://r/>) Ontology(SubClassOf(:X ObjectSomeValue
 
 const BROKEN: &str = "Ontology(";
 
+const EMPTY: &str = "Ontology()";
+
+const OUTSIDE: &str = "Ontology(ObjectPropertyRange(<r> <c>))";
+
+const DEEP: &str = "Ontology(SubClassOf(<a>
+ObjectSomeValuesFrom(<r> ObjectSomeValuesFrom(<r> <b>))))";
+
 // In place of a text: there is no such file.
 const NONE: &str = "-";
 
-fn with_rows(alloc: Global, rows: &str) -> Result<String, Fail> {
+pub(crate) fn with_rows(alloc: Global, rows: &str) -> Result<String, Fail> {
     Ok(format!(in alloc; "#curie_map:\n#  l: http://l/\n#  r: http://r/\n{COLUMNS}{rows}")?)
 }
 
-fn made(
+pub(crate) fn made(
     alloc: Global,
     left: &str,
     right: &str,
     map: &str,
+    mode: Mode,
     limits: &Limits,
 ) -> Result<Loaded, LoadFault> {
     let left = left.as_bytes();
@@ -52,7 +61,7 @@ fn made(
     if limits.depth > 256 {
         return Err(LoadFault::OutOfMemory);
     }
-    assemble(alloc, left, right, map, Mode::Strict, limits)
+    assemble(alloc, left, right, map, mode, limits)
 }
 
 fn limit(kind: LimitKind) -> Option<LoadFault> {
@@ -71,7 +80,14 @@ fn broken(side: Side) -> Option<LoadFault> {
 fn one_case_of_three_texts(rt: HostRuntime) -> Result<(), Fail> {
     let map = with_rows(rt.alloc(), MATCHES)?;
     let limits = Limits::standard();
-    let loaded = made(rt.alloc(), DISJOINT, BELOW, map.as_str(), &limits)?;
+    let loaded = made(
+        rt.alloc(),
+        DISJOINT,
+        BELOW,
+        map.as_str(),
+        Mode::Strict,
+        &limits,
+    )?;
     assert_eq!(rt; loaded.inert, 1);
     assert_eq!(rt; loaded.names.classes.len(), 4);
     assert_eq!(rt; loaded.table.rows.as_slice().len(), 3);
@@ -97,7 +113,7 @@ fn nodes_and_then_roles_are_limited(rt: HostRuntime) -> Result<(), Fail> {
         let mut limits = Limits::standard();
         limits.nodes = nodes;
         limits.roles = roles;
-        let fault = made(rt.alloc(), left, right, map.as_str(), &limits).err();
+        let fault = made(rt.alloc(), left, right, map.as_str(), Mode::Strict, &limits).err();
         assert_eq!(rt; fault, wanted, "{name}");
     }
     Ok(())
@@ -139,9 +155,72 @@ fn first_fault_of_the_texts(rt: HostRuntime) -> Result<(), Fail> {
         limits.classes = classes;
         limits.rows = most_rows;
         limits.nodes = 5;
-        let fault = made(rt.alloc(), left, right, map, &limits).err();
+        let fault = made(rt.alloc(), left, right, map, Mode::Strict, &limits).err();
         assert_eq!(rt; fault, wanted, "{name}");
     }
+    Ok(())
+}
+
+fn outside(side: Side) -> Option<LoadFault> {
+    Some(LoadFault::Profile {
+        side,
+        place: Place {
+            line: 1,
+            column: 10,
+        },
+        head: HeadId::ObjectPropertyRange,
+    })
+}
+
+#[test]
+fn each_fault_of_a_document(rt: HostRuntime) -> Result<(), Fail> {
+    let (left, right) = (Side::Left, Side::Right);
+    let depths = (
+        limit(LimitKind::Depth(left)),
+        limit(LimitKind::Depth(right)),
+    );
+    let classes = (
+        limit(LimitKind::Classes(left)),
+        limit(LimitKind::Classes(right)),
+    );
+    let properties = (
+        limit(LimitKind::Properties(left)),
+        limit(LimitKind::Properties(right)),
+    );
+    let rows = [
+        ("syntax", BROKEN, 4, 2, 1, (broken(left), broken(right))),
+        ("profile", OUTSIDE, 4, 2, 1, (outside(left), outside(right))),
+        ("depth", DEEP, 3, 2, 1, depths),
+        ("classes", DEEP, 4, 1, 1, classes),
+        ("properties", DEEP, 4, 2, 0, properties),
+    ];
+    for (name, text, depth, classes, properties, wanted) in rows {
+        let mut limits = Limits::standard();
+        limits.depth = depth;
+        limits.classes = classes;
+        limits.properties = properties;
+        let fault = made(rt.alloc(), text, BROKEN, "", Mode::Strict, &limits).err();
+        assert_eq!(rt; fault, wanted.0, "{name} in LEFT");
+        let fault = made(rt.alloc(), EMPTY, text, "", Mode::Strict, &limits).err();
+        assert_eq!(rt; fault, wanted.1, "{name} in RIGHT");
+    }
+    Ok(())
+}
+
+#[test]
+fn what_is_outside_is_left_out(rt: HostRuntime) -> Result<(), Fail> {
+    let map = with_rows(rt.alloc(), "")?;
+    let limits = Limits::standard();
+    let loaded = made(
+        rt.alloc(),
+        OUTSIDE,
+        EMPTY,
+        map.as_str(),
+        Mode::ElPart,
+        &limits,
+    )?;
+    assert_eq!(rt; loaded.omitted.left.len(), 1);
+    assert_eq!(rt; loaded.omitted.right.len(), 0);
     Ok(())
 }
 

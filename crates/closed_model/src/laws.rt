@@ -1,13 +1,17 @@
 //! Laws of closed tables and models.
 
-ghost use Rattle.std.specs.Prelude.{◌≡◌, ℕ, List, Some, All, Contains, slice_get};
+ghost use Rattle.std.specs.Prelude.{◌≡◌, ◌<◌, ℕ, List, Some, All, Contains, length, slice_get};
 ghost use Rattle.el_logic.specs.declared.types.Interp.{Interp};
 ghost use Rattle.el_logic.specs.declared.types.Part.{Part};
 ghost use Rattle.concept_store.specs.Reading.{IsReading, IsIn};
+ghost use Rattle.fact_table.specs.declared.types.Fact.TheVariants.{Sub};
+ghost use Rattle.fact_table.specs.declared.types.Proved.{Proved};
 ghost use Rattle.fact_table.specs.Lists.{facts_of};
 ghost use Rattle.el_rules.specs.Closing.{live_nodes};
-ghost use Rattle.case_file.specs.Cases.{CaseView, IsCase, IsMustHave};
-ghost use Rattle.case_file.specs.Incoherence.{IsIncoherentFor};
+ghost use Rattle.el_rules.specs.Following.{AreClosed};
+ghost use Rattle.el_rules.specs.Theories.{IsStated};
+ghost use Rattle.case_file.specs.Cases.{CaseView, IsCase, IsMustHave, theory_of};
+ghost use Rattle.case_file.specs.Incoherence.{IsEmptyFor, IsIncoherentFor};
 ghost use Rattle.closed_model.specs.ClosedTables.{TableView, IsClosedTable};
 ghost use Rattle.closed_model.specs.Models.{IsModelFor, IsSaidBy, reading_of};
 
@@ -58,4 +62,20 @@ pub fn a_closed_table_shows_coherence()
     closed_tables_say_readings();
     what_a_closed_table_says_is_a_model();
     a_model_shows_coherence();
+}
+
+/// Facts that are closed for a part of the documents and for some rows show that a node may have a
+/// member which must have one, if they put neither this node nor `owl:Thing` within `owl:Nothing`.
+pub fn closed_facts_show_members()
+    ensures { (case : CaseView) (part : Part) (ranks : List ℕ) (items : List Proved) (node : ℕ)
+        → IsCase case → All (λ rank. rank < length case.order) ranks
+        → AreClosed case.store.nodes (IsStated (theory_of case) part ranks) (facts_of items)
+        → ¬ (Contains (facts_of items) (Sub 0 1)) → ¬ (Contains (facts_of items) (Sub node 1))
+        → IsMustHave case node → ¬ (IsEmptyFor case part ranks node) }
+{
+    nodes_stand_in_order();
+    stores_mean_the_same();
+    cases_have_nodes();
+    rows_mean_the_same();
+    closed_facts_have_a_model();
 }

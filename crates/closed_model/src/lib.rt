@@ -11,8 +11,8 @@ mod table;
 mod tests;
 
 pub use laws::{
-    a_closed_table_shows_coherence, a_model_shows_coherence, closed_tables_say_readings,
-    what_a_closed_table_says_is_a_model,
+    a_closed_table_shows_coherence, a_model_shows_coherence, closed_facts_show_members,
+    closed_tables_say_readings, what_a_closed_table_says_is_a_model,
 };
 pub use lists::{ordered_numbers, ordered_pairs};
 pub use model::model_of;

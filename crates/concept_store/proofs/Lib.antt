@@ -13,3 +13,4 @@ pub mod ReadingLaws
 pub mod FrontLaws
 pub mod OverTrees
 pub mod OrderLaws
+pub mod StandingLaws

@@ -32,7 +32,7 @@ same_tree_itself (both a b) = and_from (same_tree a a) (same_tree b b) (same_tre
 same_tree_itself (some r a) = and_from (r == r) (same_tree a a) (eq-eqb r r refl) (same_tree_itself a)
 
 -- one more, written either way
-one_more : (n : ℕ) → 1 + n ≡ suc n
+pub one_more : (n : ℕ) → 1 + n ≡ suc n
 one_more n = omega arith
 
 -- a place is at most the length

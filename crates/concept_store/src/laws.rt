@@ -1,11 +1,16 @@
 //! Laws of nodes and their readings.
 
-ghost use Rattle.std.specs.Prelude.{ℕ, List, All};
+ghost use Rattle.std.specs.Prelude.{◌≡◌, ◌↔◌, ℕ, List, All, Some, None};
 ghost use Rattle.el_logic.specs.declared.types.Axiom.{Axiom};
+ghost use Rattle.el_logic.specs.declared.types.Expr.{Expr};
 ghost use Rattle.el_logic.specs.declared.types.Interp.{Interp};
-ghost use Rattle.el_logic.specs.Meaning.{IsInterp};
+ghost use Rattle.el_logic.specs.Meaning.{IsInterp, IsMember};
+ghost use Rattle.concept_store.specs.declared.types.Node.{Node};
+ghost use Rattle.concept_store.specs.Trees.{Tree, tree_of, IsTreeOver};
+ghost use Rattle.concept_store.specs.Nodes.{node_for};
 ghost use Rattle.concept_store.specs.Order.{AreInOrder};
-ghost use Rattle.concept_store.specs.Reading.{Reading, IsReadingOf, MeansTheSameIn, ReadsParts};
+ghost use Rattle.concept_store.specs.Standing.{StandsFor};
+ghost use Rattle.concept_store.specs.Reading.{Reading, IsIn, IsReadingOf, MeansTheSameIn, ReadsParts};
 ghost use Rattle.concept_store.specs.Roles.{AreOver, store_of};
 
 /// Each interpretation has a reading over the store of two ontologies, in which each part of a
@@ -36,4 +41,19 @@ pub fn stores_mean_the_same()
         → AreOver classes roles left → AreOver classes roles right
         → let store = store_of classes roles left right in
         MeansTheSameIn classes roles store.nodes right store.right }
+{}
+
+/// The node that is found for an expression is the one that stands for it, none is found exactly
+/// where none stands for it, and it has the members of the expression in every reading.
+pub fn found_nodes_stand_for_expressions()
+    ensures found { (classes properties : ℕ) (nodes : List Node) (tree : Tree) (n : ℕ)
+        → AreInOrder classes properties nodes
+        → (node_for nodes tree ≡ Some n) ↔ StandsFor nodes n tree }
+    ensures none { (classes properties : ℕ) (nodes : List Node) (tree : Tree)
+        → AreInOrder classes properties nodes
+        → (node_for nodes tree ≡ None) ↔ ((n : ℕ) → ¬ (StandsFor nodes n tree)) }
+    ensures members { (classes properties : ℕ) (nodes : List Node) (i : Interp) (m : Reading)
+        (expr : Expr) (n x : ℕ) → IsInterp classes properties i
+        → IsReadingOf nodes properties i m → IsTreeOver classes properties (tree_of expr)
+        → StandsFor nodes n (tree_of expr) → IsIn m n x ↔ IsMember i x expr }
 {}

@@ -12,6 +12,9 @@ mod tests;
 mod types;
 
 pub use build::build_store;
-pub use laws::{every_interpretation_has_a_reading, nodes_stand_in_order, stores_mean_the_same};
+pub use laws::{
+    every_interpretation_has_a_reading, found_nodes_stand_for_expressions, nodes_stand_in_order,
+    stores_mean_the_same,
+};
 pub use store::Store;
 pub use types::{Node, NodeAxiom, RoleNode, StoreFault};

@@ -1,5 +1,5 @@
 //! Laws of the rules: what each gives on small cases, and that what they give is true.
-ghost use Rattle.std.specs.Prelude.{◌≡◌, ◌<◌, ℕ, List, [], ◌∷◌, Some, length, slice_get, All, Contains};
+ghost use Rattle.std.specs.Prelude.{◌≡◌, ◌<◌, ◌↔◌, ℕ, IsTrue, List, [], ◌∷◌, Some, length, slice_get, All, Contains};
 ghost use Rattle.el_logic.specs.declared.types.Part.{Part};
 ghost use Rattle.concept_store.specs.declared.types.Node.{Node};
 ghost use Rattle.concept_store.specs.declared.types.NodeAxiom.{NodeAxiom};
@@ -13,7 +13,7 @@ ghost use Rattle.el_rules.specs.Rules.{Gives};
 ghost use Rattle.el_rules.specs.Theories.{Theory, IsStated};
 ghost use Rattle.el_rules.specs.Following.{AreClosed, EachFollowsByReason};
 ghost use Rattle.el_rules.specs.Truth.{IsTrueIn, IsModelOf};
-ghost use Rattle.el_rules.specs.Closing.{AreNodes, HasRole, said_by, live_nodes};
+ghost use Rattle.el_rules.specs.Closing.{AreNodes, HasRole, has_fact, said_by, live_nodes};
 ghost use Rattle.el_rules.specs.Worked.{GivesBy, GivesFrom};
 
 /// Each rule is sound: what it gives from true facts is true in every reading in which the axioms
@@ -51,6 +51,12 @@ pub fn closed_facts_stay_closed_for_fewer_axioms()
     ensures { (nodes : List Node) (axioms more : List NodeAxiom) (facts : List Fact)
         → ((said : NodeAxiom) → Contains axioms said → Contains more said)
         → AreClosed nodes (Contains more) facts → AreClosed nodes (Contains axioms) facts }
+{}
+
+/// The test that finds a fact in a list finds it exactly if the fact is one of the list.
+pub fn facts_are_found_where_they_are()
+    ensures { (facts : List Fact) (fact : Fact)
+        → IsTrue (has_fact facts fact) ↔ Contains facts fact }
 {}
 
 /// Facts that are closed for some axioms have a model: in the reading that they say, whose elements

@@ -49,7 +49,7 @@ operands_read text prefixes _ _ _ (domain i j r c is upper) at =
     ∙ ap (λ (x : Result IriExpr OffsetFault). x >>= with_class r) (class_read text prefixes j c upper))
 
 -- the first operand is no annotation
-class_goes_on : (text : List ℕ) (prefixes : Prefixes) (i : Item) (c : IriExpr) → IsClass text prefixes i c → is_annotation (given text prefixes i).head ≡ false
+pub class_goes_on : (text : List ℕ) (prefixes : Prefixes) (i : Item) (c : IriExpr) → IsClass text prefixes i c → is_annotation (given text prefixes i).head ≡ false
 class_goes_on text prefixes _ _ (top token is) = ap (λ (g : Given). is_annotation g.head) (atom_gives text prefixes token)
 class_goes_on text prefixes _ _ (bottom token is) = ap (λ (g : Given). is_annotation g.head) (atom_gives text prefixes token)
 class_goes_on text prefixes _ _ (class token iri is name) = ap (λ (g : Given). is_annotation g.head) (atom_gives text prefixes token)
@@ -59,19 +59,19 @@ class_goes_on text prefixes _ _ (restriction word p c start end iri filler h r f
 classes_go_on : (text : List ℕ) (prefixes : Prefixes) (i : Item) (is : List Item) (cs : List IriExpr) → AreClasses text prefixes (i ∷ is) cs → is_annotation (given text prefixes i).head ≡ false
 classes_go_on text prefixes i is _ (one_more _ _ c cs first rest) = class_goes_on text prefixes i c first
 
-property_goes_on : (text : List ℕ) (prefixes : Prefixes) (i : Item) (iri : List ℕ) → IsProperty text prefixes i iri → is_annotation (given text prefixes i).head ≡ false
+pub property_goes_on : (text : List ℕ) (prefixes : Prefixes) (i : Item) (iri : List ℕ) → IsProperty text prefixes i iri → is_annotation (given text prefixes i).head ≡ false
 property_goes_on text prefixes _ _ (property token iri is name) = ap (λ (g : Given). is_annotation g.head) (atom_gives text prefixes token)
 
 properties_go_on : (text : List ℕ) (prefixes : Prefixes) (i : Item) (is : List Item) (iris : List (List ℕ)) → AreProperties text prefixes (i ∷ is) iris → is_annotation (given text prefixes i).head ≡ false
 properties_go_on text prefixes i is [] each = absurd each
 properties_go_on text prefixes i is (iri ∷ iris) each = property_goes_on text prefixes i iri each.0
 
-chain_goes_on : (text : List ℕ) (prefixes : Prefixes) (i : Item) (iris : List (List ℕ)) → IsChain text prefixes i iris → is_annotation (given text prefixes i).head ≡ false
+pub chain_goes_on : (text : List ℕ) (prefixes : Prefixes) (i : Item) (iris : List (List ℕ)) → IsChain text prefixes i iris → is_annotation (given text prefixes i).head ≡ false
 chain_goes_on text prefixes _ _ (single i iri is) = property_goes_on text prefixes i iri is
 chain_goes_on text prefixes _ _ (chained word i j is start end iris h each) = ap (λ (g : Given). is_annotation g.head) (group_gives text prefixes word (i ∷ j ∷ is) start end) ∙ ap is_annotation h
 
 -- so the operands begin there
-stop_at : (g : Given) (gs : List Given) → is_annotation g.head ≡ false → after_annotations (g ∷ gs) ≡ g ∷ gs
+pub stop_at : (g : Given) (gs : List Given) → is_annotation g.head ≡ false → after_annotations (g ∷ gs) ≡ g ∷ gs
 stop_at g gs e = ap (λ (b : Bool). cond b (after_annotations gs) (g ∷ gs)) e
 
 pub operands_begin : (text : List ℕ) (prefixes : Prefixes) (h : Head) (is : List Item) (a : IriAxiom) → IsAxiomOf text prefixes h is a → after_annotations (map (given text prefixes) is) ≡ map (given text prefixes) is

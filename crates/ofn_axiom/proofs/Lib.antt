@@ -13,6 +13,9 @@ pub mod AxiomLaws
 pub mod AxiomBack
 pub mod AnswerLaws
 pub mod Forms
+pub mod OutsideLaws
+pub mod OutsideBack
+pub mod OutsideAxioms
 pub mod DirectLaws
 pub mod TakenLaws
 pub mod PrefixLaws

@@ -24,6 +24,8 @@ use Rattle.ofn_axiom.proofs.Forms.{by_form}
 use Rattle.ofn_axiom.proofs.Gave.{step_gave, test_failed}
 use Rattle.ofn_axiom.proofs.GivenLaws.{atom_gives, group_has_no_name}
 use Rattle.ofn_axiom.proofs.StandsLaws.{iri_name}
+use Rattle.ofn_axiom.proofs.OutsideLaws.{outside_read}
+use Rattle.ofn_axiom.proofs.OutsideAxioms.{outside_stands}
 use Rattle.ofn_axiom.proofs.DirectLaws.{direct_read, direct_says, named_item}
 
 -- a name that is held leaves a table as it is
@@ -109,7 +111,7 @@ taken_read text prefixes mode _ _ _ (said i d s more is held) =
     ap (λ (r : Result Direct OffsetFault). taken text mode r s) (direct_read text prefixes i d is)
     ∙ ap (λ (r : Result Names OffsetFault). r >>= added d s.0) (held_read (direct_mentions d) s.1 more held)
 taken_read text prefixes mode _ _ _ (omitted i at outside s el is) =
-    ap (λ (r : Result Direct OffsetFault). taken text mode r s) is
+    ap (λ (r : Result Direct OffsetFault). taken text mode r s) (outside_read text prefixes i at outside is)
     ∙ ap (λ (m : Mode). passed_over text m (fault.Profile at outside) s) el
 
 -- a direct item that is read is taken so
@@ -117,7 +119,7 @@ taken_stands : (text : List ℕ) (prefixes : Prefixes) (mode : Mode) (i : Item) 
 taken_stands text prefixes mode i s t = by (given text prefixes i).direct refl
   where
     over : (m : Mode) (f : OffsetFault) → mode ≡ m → (given text prefixes i).direct ≡ Err f → passed_over text m f s ≡ Ok t → IsTaken text prefixes mode i s t
-    over ElPart (fault.Profile at outside) el is e = let same : (with_omitted (record { place = place_at text at; head = outside }) s.0, s.1) ≡ t = cc in subst (IsTaken text prefixes mode i s) same (omitted i at outside s el is)
+    over ElPart (fault.Profile at outside) el is e = let same : (with_omitted (record { place = place_at text at; head = outside }) s.0, s.1) ≡ t = cc in subst (IsTaken text prefixes mode i s) same (omitted i at outside s el (outside_stands text prefixes i at outside is))
     over ElPart (fault.Head at) el is e = cc
     over ElPart (fault.Shape at) el is e = cc
     over ElPart (fault.PrefixUnknown at) el is e = cc

@@ -1,5 +1,5 @@
 -- What a document says, by cases as the syntax has them.
-use Rattle.std.specs.Prelude.{◌≡◌, ◌≢◌, ◌≤◌, ℕ, true, false, List, [], ◌∷◌, ◌++◌, length, Some, None, Err, IsUtf8, ⊤}
+use Rattle.std.specs.Prelude.{◌≡◌, ◌≢◌, ◌≤◌, ℕ, true, false, List, [], ◌∷◌, ◌++◌, length, Some, None, IsUtf8, ⊤}
 use Rattle.ofn_lex.specs.declared.token.Token.{Token}
 use Rattle.ofn_lex.specs.declared.token.TokenKind.TheVariants as kind
 use Rattle.ofn_term.specs.declared.item.Item.{Item}
@@ -10,7 +10,6 @@ use Rattle.ofn_heads.specs.declared.outside.HeadId.{HeadId}
 use Rattle.ofn_heads.specs.Names.{iri_between, spelling, known}
 use Rattle.text_names.specs.Names.{is_held}
 use Rattle.text_names.specs.Prefixes.{Prefixes, iri_of, has_colon, prefix_of, rest_of}
-use Rattle.ofn_axiom.specs.declared.fault.OffsetFault.TheVariants as fault
 use Rattle.ofn_axiom.specs.declared.types.Direct.{Direct}
 use Rattle.ofn_axiom.specs.declared.types.Document.{Document}
 use Rattle.ofn_axiom.specs.declared.types.Mention.{Mention}
@@ -20,10 +19,10 @@ use Rattle.ofn_axiom.specs.declared.types.Mode.{Mode}
 use Rattle.ofn_axiom.specs.declared.types.Mode.TheVariants.{ElPart}
 use Rattle.ofn_axiom.specs.Numbers.{direct_mentions}
 use Rattle.ofn_axiom.specs.Taking.{State, place_at, with_direct, with_omitted}
-use Rattle.ofn_axiom.specs.Given.{given}
 use Rattle.ofn_axiom.specs.Documents.{empty}
 use Rattle.ofn_axiom.specs.StandsFor.{IsHead, IsIri}
 use Rattle.ofn_axiom.specs.DirectItems.{IsDirect}
+use Rattle.ofn_axiom.specs.Outside.{IsOutside}
 
 -- the token is an abbreviated IRI whose only colon is its last character
 pub record IsPrefixName (text : List ℕ) (token : Token) (prefix : List ℕ) : Type 0 where
@@ -75,14 +74,14 @@ pub data AreHeld : List Mention → Names → Names → Type 0 where
       }) more → AreHeld (mention.Property name ∷ ms) names more
 
 -- a direct item is taken in, or it is left out: if only the part in the profile is asked for, and
--- its first fault is that something is outside
+-- something in it is outside
 pub data IsTaken (text : List ℕ) (prefixes : Prefixes) (mode : Mode) :
     Item → State → State → Type 0 where
   said : (i : Item) (d : Direct) (state : State) (more : Names) → IsDirect text prefixes i d →
       AreHeld (direct_mentions d) state.1 more →
       IsTaken text prefixes mode i state (with_direct more d state.0, more)
   omitted : (i : Item) (at : ℕ) (outside : HeadId) (state : State) → mode ≡ ElPart →
-      (given text prefixes i).direct ≡ Err (fault.Profile at outside) →
+      IsOutside text prefixes i at outside →
       IsTaken text prefixes mode i state
       (with_omitted (record { place = place_at text at; head = outside }) state.0, state.1)
 

@@ -25,9 +25,10 @@ use Rattle.ofn_axiom.specs.Steps.{◌>>=◌}
 use Rattle.ofn_axiom.specs.Given.{Given, given, prefix_group}
 use Rattle.ofn_axiom.specs.Taking.{State, place_at}
 
--- the prefixes with one more, which may be held already: the same again changes nothing, and another
--- IRI clashes
-abbrev pub declared_over : ℕ → Prefixes → List ℕ × List ℕ → Option (List ℕ) → Result Prefixes OffsetFault
+-- the prefixes with one more, which may be held already: the same again changes nothing, and
+-- another IRI clashes
+abbrev pub declared_over : ℕ → Prefixes → List ℕ × List ℕ → Option (List ℕ) →
+    Result Prefixes OffsetFault
 declared_over at prefixes both None = Ok (with_prefix prefixes both.0 both.1)
 declared_over at prefixes both (Some held) =
     if bytes_eq held both.1 then Ok (with_prefix prefixes both.0 both.1) else
@@ -100,7 +101,8 @@ placed text fault.TooManyProperties = doc.TooManyProperties
 
 -- the text has items of which the document is a reading: with its names after those that are held,
 -- within the limits
-pub record IsReading (text : List ℕ) (mode : Mode) (depth : ℕ) (old new : Names) (document : Document) : Type 0 where
+pub record IsReading (text : List ℕ) (mode : Mode) (depth : ℕ) (old new : Names)
+    (document : Document) : Type 0 where
   pub utf8 : IsUtf8 text
   pub items : List Item
   pub has : HasItems text depth items
@@ -113,7 +115,8 @@ pub record IsNoText (text : List ℕ) (place : Place) : Type 0 where
   pub there : place ≡ place_after (take offset text)
 
 -- the text has items, and of what they say this is the first fault
-pub record IsTermFault (text : List ℕ) (mode : Mode) (depth : ℕ) (old : Names) (found : DocFault) : Type 0 where
+pub record IsTermFault (text : List ℕ) (mode : Mode) (depth : ℕ) (old : Names)
+    (found : DocFault) : Type 0 where
   pub utf8 : IsUtf8 text
   pub items : List Item
   pub has : HasItems text depth items
@@ -123,16 +126,24 @@ pub record IsTermFault (text : List ℕ) (mode : Mode) (depth : ℕ) (old : Name
 
 -- a fault of tokens or brackets at a place
 abbrev pub FailsAt : List ℕ → (ℕ → Type 0) → Place → Type 0
-FailsAt text IsFaultAt place = IsUtf8 text × (offset : ℕ) × IsFaultAt offset × (place ≡ place_at text offset)
+FailsAt text IsFaultAt place =
+    IsUtf8 text × (offset : ℕ) × IsFaultAt offset × (place ≡ place_at text offset)
 
 -- the first fault of the text: of its bytes, its tokens, its brackets, or what its items say
-pub data IsDocFault (text : List ℕ) (mode : Mode) (depth : ℕ) (old : Names) : DocFault → Type 0 where
-  no_text : (place : Place) → IsNoText text place → IsDocFault text mode depth old (doc.Syntax place kind.NotUtf8)
-  no_token : (place : Place) → FailsAt text (λ at. HasFault text depth (term.Lex at)) place → IsDocFault text mode depth old (doc.Syntax place kind.NoToken)
-  unopened : (place : Place) → FailsAt text (λ at. HasFault text depth (term.Unopened at)) place → IsDocFault text mode depth old (doc.Syntax place kind.Unopened)
-  unclosed : (place : Place) → FailsAt text (λ at. HasFault text depth (term.Unclosed at)) place → IsDocFault text mode depth old (doc.Syntax place kind.Unclosed)
-  too_deep : (place : Place) → FailsAt text (λ at. HasFault text depth (term.TooDeep at)) place → IsDocFault text mode depth old doc.TooDeep
-  terms : (found : DocFault) → IsTermFault text mode depth old found → IsDocFault text mode depth old found
+pub data IsDocFault (text : List ℕ) (mode : Mode) (depth : ℕ) (old : Names) :
+    DocFault → Type 0 where
+  no_text : (place : Place) → IsNoText text place →
+      IsDocFault text mode depth old (doc.Syntax place kind.NotUtf8)
+  no_token : (place : Place) → FailsAt text (λ at. HasFault text depth (term.Lex at)) place →
+      IsDocFault text mode depth old (doc.Syntax place kind.NoToken)
+  unopened : (place : Place) → FailsAt text (λ at. HasFault text depth (term.Unopened at)) place →
+      IsDocFault text mode depth old (doc.Syntax place kind.Unopened)
+  unclosed : (place : Place) → FailsAt text (λ at. HasFault text depth (term.Unclosed at)) place →
+      IsDocFault text mode depth old (doc.Syntax place kind.Unclosed)
+  too_deep : (place : Place) → FailsAt text (λ at. HasFault text depth (term.TooDeep at)) place →
+      IsDocFault text mode depth old doc.TooDeep
+  terms : (found : DocFault) → IsTermFault text mode depth old found →
+      IsDocFault text mode depth old found
 
 abbrev pub doc_ran_out : DocFault → Bool
 doc_ran_out doc.OutOfMemory = true
@@ -140,8 +151,10 @@ doc_ran_out _ = false
 
 -- the reading of the bytes, or their first fault, unless memory ran out
 abbrev pub IsDocAnswer : List ℕ → Mode → ℕ → Names → Names → Result Document DocFault → Type 0
-IsDocAnswer bytes mode depth old new (Ok document) = IsReading (without_mark bytes) mode depth old new document
-IsDocAnswer bytes mode depth old new (Err found) = OrOutOfMemory doc_ran_out (IsDocFault (without_mark bytes) mode depth old) found
+IsDocAnswer bytes mode depth old new (Ok document) =
+    IsReading (without_mark bytes) mode depth old new document
+IsDocAnswer bytes mode depth old new (Err found) =
+    OrOutOfMemory doc_ran_out (IsDocFault (without_mark bytes) mode depth old) found
 
 abbrev pub is_profile : DocFault → Bool
 is_profile (doc.Profile place head) = true

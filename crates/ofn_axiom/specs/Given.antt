@@ -145,7 +145,8 @@ classes_onto done (g ∷ gs) = g.class >>= λ class. classes_onto (done ++ class
 
 abbrev pub properties_onto : List (List ℕ) → List Given → Result (List (List ℕ)) OffsetFault
 properties_onto done [] = Ok done
-properties_onto done (g ∷ gs) = g.property >>= λ property. properties_onto (done ++ property ∷ []) gs
+properties_onto done (g ∷ gs) =
+    g.property >>= λ property. properties_onto (done ++ property ∷ []) gs
 
 -- one class expression or more
 abbrev pub some_classes : ℕ → List Given → Result (List IriExpr) OffsetFault
@@ -328,7 +329,8 @@ direct_group at head.Declaration gs = declaration at (after_annotations gs)
 direct_group at h gs = axiom_group at h (after_annotations gs) >>= as_axiom
 
 -- an abbreviated IRI that is a prefix, an equals sign, a full IRI
-abbrev pub prefix_parts : ℕ → Option (List ℕ) → Bool → Option (List ℕ) → Result (List ℕ × List ℕ) OffsetFault
+abbrev pub prefix_parts : ℕ → Option (List ℕ) → Bool → Option (List ℕ) →
+    Result (List ℕ × List ℕ) OffsetFault
 prefix_parts at (Some name) true (Some iri) = Ok (name, iri)
 prefix_parts at (Some name) true None = Err (fault.Shape at)
 prefix_parts at (Some name) false full = Err (fault.Shape at)
@@ -344,9 +346,11 @@ prefix_group at (n ∷ e ∷ f ∷ g ∷ gs) = Err (fault.Shape at)
 -- direct items, each taken in its turn
 abbrev pub directs : List ℕ → Mode → List Given → State → Result State OffsetFault
 directs text mode [] state = Ok state
-directs text mode (g ∷ gs) state = taken text mode g.direct state >>= λ next. directs text mode gs next
+directs text mode (g ∷ gs) state =
+    taken text mode g.direct state >>= λ next. directs text mode gs next
 
-abbrev pub after_iri : ℕ → Named → List Given → Result (List Given) OffsetFault → Result (List Given) OffsetFault
+abbrev pub after_iri : ℕ → Named → List Given → Result (List Given) OffsetFault →
+    Result (List Given) OffsetFault
 after_iri at (named.Iri iri) here later = later
 after_iri at named.Unknown here later = Err (fault.PrefixUnknown at)
 after_iri at named.NoIri here later = Ok here

@@ -5,6 +5,7 @@ pub mod Given
 pub mod Documents
 pub mod Inside
 pub mod StandsFor
+pub mod Outside
 pub mod DirectItems
 pub mod DocumentText
 pub mod Answers

@@ -78,10 +78,12 @@ mutual
     restriction : (word : Token) (p c : Item) (start end : ℕ) (iri : List ℕ) (filler : IriExpr) →
         IsHead text word head.ObjectSomeValuesFrom → IsProperty text prefixes p iri →
         IsClass text prefixes c filler →
-        IsClass text prefixes (item.Group (Some word) (p ∷ c ∷ []) start end) (expr.Exists iri filler)
+        IsClass text prefixes (item.Group (Some word) (p ∷ c ∷ []) start end)
+        (expr.Exists iri filler)
 
   -- items stand for class expressions, each for one
-  pub data AreClasses (text : List ℕ) (prefixes : Prefixes) : List Item → List IriExpr → Type 0 where
+  pub data AreClasses (text : List ℕ) (prefixes : Prefixes) :
+      List Item → List IriExpr → Type 0 where
     none : AreClasses text prefixes [] []
     one_more : (i : Item) (is : List Item) (class : IriExpr) (classes : List IriExpr) →
         IsClass text prefixes i class → AreClasses text prefixes is classes →
@@ -96,12 +98,15 @@ pub data IsChain (text : List ℕ) (prefixes : Prefixes) : Item → List (List �
       IsChain text prefixes (item.Group (Some word) (i ∷ j ∷ is) start end) iris
 
 -- what a head says of its operands
-pub data IsAxiomOf (text : List ℕ) (prefixes : Prefixes) : Head → List Item → IriAxiom → Type 0 where
+pub data IsAxiomOf (text : List ℕ) (prefixes : Prefixes) :
+    Head → List Item → IriAxiom → Type 0 where
   sub_class : (i j : Item) (c d : IriExpr) → IsClass text prefixes i c → IsClass text prefixes j d →
       IsAxiomOf text prefixes head.SubClassOf (i ∷ j ∷ []) (ax.SubClass c d)
-  equivalent : (i : Item) (is : List Item) (cs : List IriExpr) → AreClasses text prefixes (i ∷ is) cs →
+  equivalent : (i : Item) (is : List Item) (cs : List IriExpr) →
+      AreClasses text prefixes (i ∷ is) cs →
       IsAxiomOf text prefixes head.EquivalentClasses (i ∷ is) (ax.Equivalent cs)
-  disjoint : (i : Item) (is : List Item) (cs : List IriExpr) → AreClasses text prefixes (i ∷ is) cs →
+  disjoint : (i : Item) (is : List Item) (cs : List IriExpr) →
+      AreClasses text prefixes (i ∷ is) cs →
       IsAxiomOf text prefixes head.DisjointClasses (i ∷ is) (ax.Disjoint cs)
   sub_property : (i j : Item) (chain : List (List ℕ)) (s : List ℕ) → IsChain text prefixes i chain →
       IsProperty text prefixes j s →
@@ -119,7 +124,8 @@ pub data IsAxiomOf (text : List ℕ) (prefixes : Prefixes) : Head → List Item 
 
 -- a group that may stand before the operands of an axiom
 pub data IsAnnotation (text : List ℕ) : Item → Type 0 where
-  annotation : (word : Token) (items : List Item) (start end : ℕ) → IsHead text word head.Annotation →
+  annotation : (word : Token) (items : List Item) (start end : ℕ) →
+      IsHead text word head.Annotation →
       IsAnnotation text (item.Group (Some word) items start end)
 
 abbrev pub AreAnnotations : List ℕ → List Item → Type 0

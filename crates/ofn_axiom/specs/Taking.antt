@@ -38,7 +38,8 @@ abbrev pub with_omitted : Omitted → Document → Document
 with_omitted entry document =
     record { axioms = document.axioms; omitted = document.omitted ++ entry ∷ [] }
 
--- a direct item with a fault: if only the part in the profile is asked for, what is outside is omitted
+-- a direct item with a fault: if only the part in the profile is asked for, what is outside is
+-- omitted
 abbrev pub passed_over : List ℕ → Mode → OffsetFault → State → Result State OffsetFault
 passed_over text ElPart (fault.Profile at head) state =
     Ok (with_omitted (record { place = place_at text at; head = head }) state.0, state.1)

@@ -1,6 +1,6 @@
 //! Laws on documents: functions that do nothing and whose contracts are the laws.
 
-ghost use Rattle.std.specs.Prelude.{◌≡◌, ℕ, List, Ok, false};
+ghost use Rattle.std.specs.Prelude.{◌≡◌, ℕ, List, Ok, Err, false};
 ghost use Rattle.ofn_axiom.specs.Answers.{HasDocAnswer};
 ghost use Rattle.ofn_axiom.specs.Documents.{IsReading, IsDocFault, is_profile};
 ghost use Rattle.ofn_axiom.specs.declared.fault.DocFault.{DocFault};
@@ -17,6 +17,9 @@ ghost use Rattle.ofn_axiom.specs.declared.types.IriAxiom.{IriAxiom};
 ghost use Rattle.ofn_axiom.specs.declared.types.Direct.{Direct};
 ghost use Rattle.ofn_axiom.specs.declared.types.Direct.TheVariants as direct;
 ghost use Rattle.ofn_axiom.specs.DirectItems.{IsDirect};
+ghost use Rattle.ofn_axiom.specs.Outside.{IsOutside};
+ghost use Rattle.ofn_axiom.specs.declared.fault.OffsetFault.TheVariants as fault;
+ghost use Rattle.ofn_heads.specs.declared.outside.HeadId.{HeadId};
 ghost use Rattle.ofn_axiom.specs.DocumentText.{IsDocumentText};
 ghost use Rattle.ofn_lex.specs.declared.token.Token.{Token};
 ghost use Rattle.ofn_heads.specs.declared.iri.Named.TheVariants as named;
@@ -74,6 +77,17 @@ pub fn direct_items_are_what_they_say()
         IsDirect text prefixes item said → (given text prefixes item).direct ≡ Ok said }
     ensures says { (text : List ℕ) (prefixes : Prefixes) (item : Item) (said : Direct) →
         (given text prefixes item).direct ≡ Ok said → IsDirect text prefixes item said }
+{}
+
+/// The first fault of an item of an ontology is that something is outside the fragment, at a place,
+/// if and only if it is right up to there, and what stands there is outside.
+pub fn items_are_outside_where_they_say()
+    ensures read { (text : List ℕ) (prefixes : Prefixes) (item : Item) (at : ℕ)
+        (outside : HeadId) → IsOutside text prefixes item at outside →
+        (given text prefixes item).direct ≡ Err (fault.Profile at outside) }
+    ensures says { (text : List ℕ) (prefixes : Prefixes) (item : Item) (at : ℕ)
+        (outside : HeadId) → (given text prefixes item).direct ≡ Err (fault.Profile at outside) →
+        IsOutside text prefixes item at outside }
 {}
 
 /// A text is read as a document if and only if it is a text of it: prefixes, then an ontology.

@@ -20,7 +20,7 @@ pub use laws::{
     axioms_are_what_states_them, chains_are_what_stands_for_them, classes_are_what_stands_for_them,
     direct_items_are_what_they_say, documents_are_what_they_say, each_document_has_one_answer,
     el_parts_are_never_refused_for_the_profile, iris_are_what_tokens_stand_for,
-    properties_are_what_stands_for_them,
+    items_are_outside_where_they_say, properties_are_what_stands_for_them,
 };
 pub use ofn_heads::HeadId;
 pub use read::read_document;

@@ -1,5 +1,5 @@
 -- After a group, the brackets are as they were before it.
-use Rattle.std.proofs.Common.{◌≡◌, ℕ, zero, suc, ◌+◌, ◌-◌, ◌<◌, Bool, true, false, cond, List, [], ◌∷◌, refl, ap, subst, sym, ◌∙◌, arith}
+use Rattle.std.proofs.Common.{◌≡◌, ℕ, zero, suc, ◌+◌, ◌-◌, ◌<◌, Bool, true, false, cond, List, [], ◌∷◌, refl, ap, sym, ◌∙◌, arith}
 use Rattle.std.specs.Prelude.{Some, ◌==◌, nat_lt}
 use Rattle.std.proofs.lemmas.Bool.Decides.{nat_tests}
 use Rattle.ofn_lex.specs.declared.token.Token.{Token}
@@ -7,7 +7,7 @@ use Rattle.ofn_lex.specs.declared.token.TokenKind.{TokenKind}
 use Rattle.ofn_lex.specs.declared.token.TokenKind.TheVariants.{Open, Close, Equals, FullIri, Quoted, Lang, Carets, Run}
 use Rattle.ofn_term.specs.declared.fault.TermFault.TheVariants.{Unopened, TooDeep}
 use Rattle.ofn_term.specs.Words.{is_open_kind, is_close_kind, is_open, is_close}
-use Rattle.ofn_term.specs.Inside.PieceReading.{first_open, bracket_fault, begins_close}
+use Rattle.ofn_term.specs.Inside.PieceReading.{first_open, bracket_fault}
 
 -- a closing bracket does not open
 pub closing_is_not_open : (kind : TokenKind) → is_close_kind kind ≡ true → is_open_kind kind ≡ false
@@ -58,11 +58,10 @@ fault_at_open most depth first bracket behind o l =
 -- the brackets in a group are in pairs, and so are its own
 pub fault_behind_group : (most depth first inside : ℕ) (bracket close : Token) (behind rest others : List Token) →
     inside ≡ first_open depth first bracket.start → is_open bracket ≡ true → depth < most →
-    rest ≡ close ∷ others → begins_close rest ≡ true →
+    rest ≡ close ∷ others → is_close close ≡ true →
     bracket_fault most (depth + 1) inside behind ≡ bracket_fault most (depth + 1) inside rest →
     bracket_fault most depth first (bracket ∷ behind) ≡ bracket_fault most depth first others
-fault_behind_group most depth first inside bracket close behind rest others same o l e s inner =
-    let closes : is_close close ≡ true = subst (λ (tokens : List Token). begins_close tokens ≡ true) e s in
+fault_behind_group most depth first inside bracket close behind rest others same o l e closes inner =
     fault_at_open most depth first bracket behind o l
     ∙ ap (λ (n : ℕ). bracket_fault most (depth + 1) n behind) (sym same)
     ∙ inner

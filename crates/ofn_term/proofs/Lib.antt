@@ -1,6 +1,8 @@
 pub mod FaultSteps
 pub mod Pushing
+pub mod Checking
 pub mod Closing
+pub mod Reading
 pub mod Standing
 pub mod OneList
 pub mod Faults

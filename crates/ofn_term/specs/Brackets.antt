@@ -15,11 +15,13 @@ closes (token ∷ tokens) = (if is_close token then 1 else 0) + closes tokens
 -- at no place have more brackets closed than opened, and at none are more than so many open
 pub record StayWithin (most : ℕ) (tokens : List Token) : Type 0 where
   pub paired : (front rest : List Token) → tokens ≡ front ++ rest → closes front ≤ opens front
-  pub shallow : (front rest : List Token) → tokens ≡ front ++ rest → opens front ≤ closes front + most
+  pub shallow : (front rest : List Token) → tokens ≡ front ++ rest →
+      opens front ≤ closes front + most
 
--- at the offset stands a bracket that passes a test; before it the tokens stay within the bounds, and
--- as many brackets are open as the level says
-pub record IsBracketAt (most : ℕ) (tokens : List Token) (passes : Token → Bool) (level offset : ℕ) : Type 0 where
+-- at the offset stands a bracket that passes a test; before it the tokens stay within the bounds,
+-- and as many brackets are open as the level says
+pub record IsBracketAt (most : ℕ) (tokens : List Token) (passes : Token → Bool)
+    (level offset : ℕ) : Type 0 where
   pub front : List Token
   pub bracket : Token
   pub rest : List Token
@@ -41,7 +43,8 @@ IsTooDeep most tokens offset = IsBracketAt most tokens is_open most offset
 abbrev pub LeaveOpen : List Token → Type 0
 LeaveOpen tokens = (front rest : List Token) → tokens ≡ front ++ rest → closes front ≤ opens front
 
--- after an opening bracket stands its partner, a closing one: between the two, brackets are in pairs
+-- after an opening bracket stands its partner, a closing one: between the two, brackets are in
+-- pairs
 pub record HasPartner (behind : List Token) : Type 0 where
   pub between : List Token
   pub bracket : Token

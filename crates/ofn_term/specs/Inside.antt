@@ -1,2 +1,3 @@
 -- What only the code of this crate and its proofs cite.
+pub mod TokenReading
 pub mod PieceReading

@@ -19,11 +19,13 @@ pub record HasItems (text : List ℕ) (most : ℕ) (items : List Item) : Type 0 
 
 -- the text has tokens to its end, with a fault of brackets
 abbrev pub FailsIn : List ℕ → (List Token → ℕ → Type 0) → ℕ → Type 0
-FailsIn text IsFaultAt offset = (tokens : List Token) × HasTokens text 0 tokens None × IsFaultAt tokens offset
+FailsIn text IsFaultAt offset =
+    (tokens : List Token) × HasTokens text 0 tokens None × IsFaultAt tokens offset
 
 -- the first fault of the text: of its tokens, or else of their brackets
 abbrev pub HasFault : List ℕ → ℕ → TermFault → Type 0
-HasFault text most (fault.Lex offset) = (tokens : List Token) × HasTokens text 0 tokens (Some (record { offset = offset }))
+HasFault text most (fault.Lex offset) =
+    (tokens : List Token) × HasTokens text 0 tokens (Some (record { offset = offset }))
 HasFault text most (fault.Unopened offset) = FailsIn text (IsUnopened most) offset
 HasFault text most (fault.Unclosed offset) = FailsIn text (IsUnclosed most) offset
 HasFault text most (fault.TooDeep offset) = FailsIn text (IsTooDeep most) offset

@@ -58,13 +58,17 @@ abbrev pub begins_group : List Piece → Bool
 begins_group (opening start ∷ rest) = true
 begins_group _ = false
 
--- a head is a word directly before a bracket that opens a group; an atom is no bracket, and no such word
+-- a head is a word directly before a bracket that opens a group; an atom is no bracket, and no such
+-- word
 abbrev pub AreInPlace : List ℕ → List Piece → Type 0
 AreInPlace text [] = ⊤
 AreInPlace text (opening start ∷ rest) = AreInPlace text rest
 AreInPlace text (closing end ∷ rest) = AreInPlace text rest
-AreInPlace text (head token ∷ rest) = ((is_word text token && begins_group rest) ≡ true) × AreInPlace text rest
-AreInPlace text (atom token ∷ rest) = (is_bracket token ≡ false) × ((is_word text token && begins_group rest) ≡ false) × AreInPlace text rest
+AreInPlace text (head token ∷ rest) =
+    ((is_word text token && begins_group rest) ≡ true) × AreInPlace text rest
+AreInPlace text (atom token ∷ rest) =
+    (is_bracket token ≡ false) × ((is_word text token && begins_group rest) ≡ false) ×
+    AreInPlace text rest
 
 -- the items stand for these tokens of a text
 pub record StandFor (text : List ℕ) (items : List Item) (tokens : List Token) : Type 0 where

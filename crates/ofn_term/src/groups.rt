@@ -1,10 +1,14 @@
-//! Groups, read from tokens.
+//! Groups, read from the tokens of a text.
 
-ghost use Rattle.std.specs.Prelude.{◌≡◌, ◌≤◌, ◌<◌, ℕ, List, [], ◌∷◌, ◌++◌, length, true, false, IfOk, IfErr, IfSome, IfNone, MatchOption};
+ghost use Rattle.std.specs.Prelude.{◌≡◌, ◌≤◌, ◌<◌, ℕ, List, ◌∷◌, ◌++◌, length, true, false, IfOk, IfErr, IfSome, IfNone, None};
+ghost use Rattle.ofn_lex.specs.Texts.{HasTokens};
+ghost use Rattle.ofn_lex.specs.declared.token.Token.{Token};
 ghost use Rattle.ofn_term.specs.Words.{is_open, is_close};
 ghost use Rattle.ofn_term.specs.Writing.{Piece, atom, closing, pieces, opening_pieces};
-ghost use Rattle.ofn_term.specs.Inside.PieceReading.{pieces_of, first_open, bracket_fault, begins_close, IsFaultUnlessMemory};
+ghost use Rattle.ofn_term.specs.Inside.TokenReading.{Begins};
+ghost use Rattle.ofn_term.specs.Inside.PieceReading.{pieces_of, first_open, bracket_fault, IsFaultUnlessMemory, IsOpening, IsReadTo, IsGroupRead};
 
+use crate::tokens::token_from;
 use crate::words::{is_close, is_open, is_word};
 use crate::{Item, Items, TermFault};
 use ofn_lex::Token;
@@ -18,29 +22,19 @@ pub struct Level {
     pub first: usize,
 }
 
-// A bracket that opens a group, with the word before it that is its head, and what is after it.
+// A bracket that opens a group, with the word before it that is its head.
 #[derive(Clone, Copy)]
-struct Opening<'a> {
+struct Opening {
     head: Option<Token>,
     bracket: Token,
-    behind: &'a [Token],
 }
 
-// What a bracket and its partner have between them, where the partner ends, and what is after it.
+// What a bracket and its partner have between them, where the partner ends, and the token after it.
 #[derive(Drop)]
-struct Group<'a> {
+struct Group {
     items: Items,
     end: usize,
-    behind: &'a [Token],
-}
-
-pub fn front(tokens: &[Token]) -> Option<(Token, &[Token])>
-    ensures { MatchOption result (tokens.now ≡ []) (λ parts. tokens.now ≡ parts.0 ∷ parts.1.now) }
-{
-    match tokens {
-        [] => None,
-        [first, rest @ ..] => Some((*first, rest)),
-    }
+    next: Option<Token>,
 }
 
 fn first_open(level: Level, start: usize) -> usize
@@ -53,30 +47,29 @@ fn first_open(level: Level, start: usize) -> usize
 }
 
 // The bracket of the group that begins with a token, if one does.
-fn opening_of<'a>(text: &[u8], token: Token, behind: &'a [Token]) -> Option<Opening<'a>>
-    ensures none { IfNone result (is_close token ≡ false →
-        pieces_of text.now (token ∷ behind.now) ≡ atom token ∷ pieces_of text.now behind.now) }
+fn opening_of(text: &[u8], token: Token) -> Option<Opening>
+    requires { token.end ≤ length text.now }
+    ensures none { IfNone result ((behind : List Token) →
+        HasTokens text.now token.end behind None → is_close token ≡ false →
+        pieces_of text.now (token ∷ behind) ≡ atom token ∷ pieces_of text.now behind) }
     ensures no_bracket { IfNone result (is_open token ≡ false) }
     ensures opens { IfSome result (λ opening. is_open opening.bracket ≡ true) }
-    ensures pieces { IfSome result (λ opening. pieces_of text.now (token ∷ behind.now) ≡
-        opening_pieces opening.head opening.bracket.start
-        ++ pieces_of text.now opening.behind.now) }
-    ensures faults { IfSome result (λ opening. (most depth first : ℕ) →
-        bracket_fault most depth first (token ∷ behind.now) ≡
-        bracket_fault most depth first (opening.bracket ∷ opening.behind.now)) }
-    ensures shorter { IfSome result (λ opening. length opening.behind.now ≤ length behind.now) }
+    ensures opening { IfSome result (λ opening. (behind : List Token) →
+        HasTokens text.now token.end behind None →
+        IsOpening text.now token behind opening.head opening.bracket) }
+    ensures past { IfSome result (λ opening. token.end ≤ opening.bracket.end) }
+    ensures within { IfSome result (λ opening. opening.bracket.end ≤ length text.now) }
 {
     if is_open(token) {
         return Some(Opening {
             head: None,
             bracket: token,
-            behind,
         });
     }
     if !is_word(text, token) {
         return None;
     }
-    let Some((bracket, behind)) = front(behind) else {
+    let Some(bracket) = token_from(text, token.end) else {
         return None;
     };
     if !is_open(bracket) {
@@ -85,54 +78,61 @@ fn opening_of<'a>(text: &[u8], token: Token, behind: &'a [Token]) -> Option<Open
     Some(Opening {
         head: Some(token),
         bracket,
-        behind,
     })
 }
 
 #[tactic(auto, using(crate::proofs::Pushing::push_atom))]
-fn push_atom(items: &mut Items, token: Token) -> Result<(), AllocError>
+fn push_atom(items: &mut Vec<Item>, token: Token) -> Result<(), AllocError>
     ensures { IfOk result (λ _. (rest : List Piece) →
-        pieces items.new ++ rest ≡ pieces items.old ++ atom token ∷ rest) }
+        pieces items.new.items ++ rest ≡ pieces items.old.items ++ atom token ∷ rest) }
 {
-    items.push(Item::Atom(token))
+    items.push(Item::Atom(token))?;
+    Ok(())
 }
 
 #[tactic(auto, using(crate::proofs::Pushing::push_group))]
 fn push_group(
-    items: &mut Items,
+    items: &mut Vec<Item>,
     head: Option<Token>,
     inner: Items,
     start: usize,
     end: usize,
 ) -> Result<(), AllocError>
-    ensures { IfOk result (λ _. (rest : List Piece) → pieces items.new ++ rest ≡
-        pieces items.old ++ (opening_pieces head start ++ (pieces inner ++ closing end ∷ rest))) }
+    ensures { IfOk result (λ _. (rest : List Piece) → pieces items.new.items ++ rest ≡
+        pieces items.old.items ++ (opening_pieces head start ++ (pieces inner ++ closing end ∷ rest))) }
 {
     items.push(Item::Group {
         head,
         items: inner,
         start,
         end,
-    })
+    })?;
+    Ok(())
+}
+
+// Items with no room for more: most groups have few.
+fn without_room(items: Vec<Item>) -> Items
+    ensures { result ≡ items.items }
+{
+    let mut items = items;
+    items.shrink_to_fit();
+    Items::from_vec(items)
 }
 
 #[cycle(groups)]
-fn group_at<'a>(
-    alloc: Global,
-    text: &[u8],
-    bracket: Token,
-    behind: &'a [Token],
-    level: Level,
-) -> Result<Group<'a>, TermFault>
-    requires { is_open bracket ≡ true }
-    ensures pieces { IfOk result (λ group. pieces_of text.now behind.now ≡
-        pieces group.items ++ closing group.end ∷ pieces_of text.now group.behind.now) }
-    ensures shorter { IfOk result (λ group. length group.behind.now < length behind.now) }
-    ensures faults { IfOk result (λ group.
-        bracket_fault level.most level.depth level.first (bracket ∷ behind.now) ≡
-        bracket_fault level.most level.depth level.first group.behind.now) }
-    ensures err { IfErr result (IsFaultUnlessMemory
-        (bracket_fault level.most level.depth level.first (bracket ∷ behind.now))) }
+fn group_at(alloc: Global, text: &[u8], bracket: Token, level: Level) -> Result<Group, TermFault>
+    requires open { is_open bracket ≡ true }
+    requires within { bracket.end ≤ length text.now }
+    ensures read { IfOk result (λ group. (behind : List Token) →
+        HasTokens text.now bracket.end behind None →
+        IsGroupRead text.now level.most level.depth level.first bracket behind group.items
+        group.end group.next) }
+    ensures past { IfOk result (λ group. IfSome group.next (λ next. bracket.end < next.end)) }
+    ensures within { IfOk result (λ group. IfSome group.next (λ next. next.end ≤ length text.now)) }
+    ensures err { IfErr result (λ fault. (behind : List Token) →
+        HasTokens text.now bracket.end behind None →
+        IsFaultUnlessMemory (bracket_fault level.most level.depth level.first (bracket ∷ behind))
+        fault) }
 {
     if level.depth >= level.most {
         return Err(TermFault::TooDeep {
@@ -145,54 +145,58 @@ fn group_at<'a>(
         depth: level.depth + 1,
         first,
     };
-    let (items, rest) = match items_at(alloc, text, behind, inside) {
+    let begin = token_from(text, bracket.end);
+    let (items, there) = match items_at(alloc, text, begin, inside) {
         Ok(found) => found,
         Err(fault) => return Err(fault),
     };
-    let Some((close, behind)) = front(rest) else {
+    let Some(close) = there else {
         return Err(TermFault::Unclosed { offset: first });
     };
+    let next = token_from(text, close.end);
     Ok(Group {
         items,
         end: close.end,
-        behind,
+        next,
     })
 }
 
-// The items up to a closing bracket whose partner is before them, and what is from there on.
+// The items from a token on, up to a closing bracket whose partner is before them.
 #[cycle(groups)]
-pub fn items_at<'a>(
+pub fn items_at(
     alloc: Global,
     text: &[u8],
-    tokens: &'a [Token],
+    begin: Option<Token>,
     level: Level,
-) -> Result<(Items, &'a [Token]), TermFault>
-    ensures pieces { IfOk result (λ found.
-        pieces_of text.now tokens.now ≡ pieces found.0 ++ pieces_of text.now found.1.now) }
-    ensures shorter { IfOk result (λ found. length found.1.now ≤ length tokens.now) }
-    ensures stops { IfOk result (λ found. begins_close found.1.now ≡ true) }
-    ensures faults { IfOk result (λ found.
-        bracket_fault level.most level.depth level.first tokens.now ≡
-        bracket_fault level.most level.depth level.first found.1.now) }
-    ensures err { IfErr result (IsFaultUnlessMemory
-        (bracket_fault level.most level.depth level.first tokens.now)) }
+) -> Result<(Items, Option<Token>), TermFault>
+    requires { IfSome begin (λ token. token.end ≤ length text.now) }
+    ensures read { IfOk result (λ found. (tokens : List Token) →
+        Begins text.now begin tokens →
+        IsReadTo text.now level.most level.depth level.first tokens found.0 found.1) }
+    ensures stops { IfOk result (λ found. IfSome found.1 (λ close. is_close close ≡ true)) }
+    ensures past { (n : ℕ) → IfSome begin (λ token. n < token.end) →
+        IfOk result (λ found. IfSome found.1 (λ close. n < close.end)) }
+    ensures within { IfOk result (λ found. IfSome found.1 (λ close. close.end ≤ length text.now)) }
+    ensures err { IfErr result (λ fault. (tokens : List Token) →
+        Begins text.now begin tokens →
+        IsFaultUnlessMemory (bracket_fault level.most level.depth level.first tokens) fault) }
 {
-    let mut items = Items::new(alloc);
-    let mut rest = tokens;
+    let mut items = Vec::new(alloc);
+    let mut here = begin;
     loop {
-        let Some((token, behind)) = front(rest) else {
-            return Ok((items, rest));
+        let Some(token) = here else {
+            return Ok((without_room(items), None));
         };
         if is_close(token) {
-            return Ok((items, rest));
+            return Ok((without_room(items), Some(token)));
         }
-        let Some(opening) = opening_of(text, token, behind) else {
+        let Some(opening) = opening_of(text, token) else {
             push_atom(&mut items, token)?;
-            rest = behind;
+            here = token_from(text, token.end);
             continue;
         };
         let bracket = opening.bracket;
-        let group = match group_at(alloc, text, bracket, opening.behind, level) {
+        let group = match group_at(alloc, text, bracket, level) {
             Ok(group) => group,
             Err(fault) => return Err(fault),
         };
@@ -203,6 +207,6 @@ pub fn items_at<'a>(
             bracket.start,
             group.end,
         )?;
-        rest = group.behind;
+        here = group.next;
     }
 }

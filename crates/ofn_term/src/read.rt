@@ -1,14 +1,15 @@
 //! The items of a text.
 
-ghost use Rattle.std.specs.Prelude.{◌≡◌, ◌≤◌, length, IfOk, IfErr, OnOk, MatchResult, None, All, IsUtf8};
+ghost use Rattle.std.specs.Prelude.{◌≡◌, ◌≤◌, List, length, IfOk, IfErr, OnOk, MatchResult, None, All, IsUtf8};
+ghost use Rattle.ofn_lex.specs.Texts.{HasTokens};
+ghost use Rattle.ofn_lex.specs.declared.token.Token.{Token};
 ghost use Rattle.ofn_term.specs.Texts.{HasItems, IsFirstFault, IsOfCharacters, IsAtCharacter};
 ghost use Rattle.ofn_term.specs.Writing.{pieces, tokens_of};
 ghost use Rattle.ofn_term.specs.Inside.PieceReading.{pieces_of, bracket_fault, IsFaultUnlessMemory};
 
-use crate::groups::{Level, front, items_at};
-use crate::tokens::all_tokens;
+use crate::groups::{Level, items_at};
+use crate::tokens::{check_tokens, token_from};
 use crate::{Items, TermFault};
-use ofn_lex::Token;
 use std::alloc::Global;
 
 /// The items of a whole text in OWL 2 functional-style syntax, with the lenient points that
@@ -31,29 +32,33 @@ pub fn read_items(alloc: Global, text: &[u8], depth: u32) -> Result<Items, TermF
         MatchResult result (λ items. All (IsOfCharacters text.now) (tokens_of items))
         (IsAtCharacter text.now) }
 {
-    let tokens = match all_tokens(alloc, text) {
-        Ok(tokens) => tokens,
+    match check_tokens(text) {
+        Ok(()) => {}
         Err(fault) => return Err(fault),
-    };
-    items_of(alloc, text, tokens.as_slice(), depth)
+    }
+    items_of(alloc, text, depth)
 }
 
-// The items that tokens of a text stand for.
-fn items_of(alloc: Global, text: &[u8], tokens: &[Token], depth: u32) -> Result<Items, TermFault>
-    ensures pieces { IfOk result (λ items. pieces_of text.now tokens.now ≡ pieces items) }
-    ensures no_fault { OnOk result (bracket_fault depth 0 0 tokens.now ≡ None) }
-    ensures fault { IfErr result (IsFaultUnlessMemory (bracket_fault depth 0 0 tokens.now)) }
+// The items of a text that has tokens to its end.
+fn items_of(alloc: Global, text: &[u8], depth: u32) -> Result<Items, TermFault>
+    ensures pieces { (tokens : List Token) → HasTokens text.now 0 tokens None →
+        IfOk result (λ items. pieces_of text.now tokens ≡ pieces items) }
+    ensures no_fault { (tokens : List Token) → HasTokens text.now 0 tokens None →
+        OnOk result (bracket_fault depth 0 0 tokens ≡ None) }
+    ensures fault { (tokens : List Token) → HasTokens text.now 0 tokens None →
+        IfErr result (IsFaultUnlessMemory (bracket_fault depth 0 0 tokens)) }
 {
     let level = Level {
         most: depth,
         depth: 0,
         first: 0,
     };
-    let (items, rest) = match items_at(alloc, text, tokens, level) {
+    let begin = token_from(text, 0);
+    let (items, there) = match items_at(alloc, text, begin, level) {
         Ok(found) => found,
         Err(fault) => return Err(fault),
     };
-    let Some((close, _)) = front(rest) else {
+    let Some(close) = there else {
         return Ok(items);
     };
     Err(TermFault::Unopened {

@@ -1,24 +1,20 @@
-//! The tokens of a text, in a list.
+//! The tokens of a text, one at a time.
 
-ghost use Rattle.std.specs.Prelude.{◌≤◌, ℕ, List, length, IfOk, IfErr, MatchResult, None, All, IsUtf8};
+ghost use Rattle.std.specs.Prelude.{◌≤◌, ◌<◌, List, length, IfErr, IfSome, OnOk, None, IsUtf8};
 ghost use Rattle.ofn_lex.specs.Texts.{HasTokens};
-ghost use Rattle.ofn_term.specs.Inside.PieceReading.{IsLexFault};
-ghost use Rattle.ofn_term.specs.Texts.{IsOfCharacters, IsAtCharacter};
+ghost use Rattle.ofn_lex.specs.declared.token.Token.{Token};
+ghost use Rattle.ofn_term.specs.Inside.TokenReading.{AreAllTokens, IsLexFault, Begins};
+ghost use Rattle.ofn_term.specs.Texts.{IsAtCharacter};
 
 use crate::TermFault;
-use ofn_lex::{LexFault, Token, next_token};
-use std::alloc::Global;
+use ofn_lex::{LexFault, Token, next_token, what_is_read_is_what_the_format_has};
 
-// All tokens of a text.
-pub fn all_tokens(alloc: Global, text: &[u8]) -> Result<Vec<Token>, TermFault>
-    ensures ok { IfOk result (λ tokens. HasTokens text.now 0 tokens.items None) }
-    ensures few { IfOk result (λ tokens. length tokens.items ≤ length text.now) }
+// Whether the text has tokens to its end.
+pub fn check_tokens(text: &[u8]) -> Result<(), TermFault>
+    ensures ok { OnOk result (AreAllTokens text.now) }
     ensures err { IfErr result (IsLexFault text.now) }
-    ensures characters { IsUtf8 text.now →
-        MatchResult result (λ tokens. All (IsOfCharacters text.now) tokens.items)
-        (IsAtCharacter text.now) }
+    ensures characters { IsUtf8 text.now → IfErr result (IsAtCharacter text.now) }
 {
-    let mut tokens = Vec::new(alloc);
     let mut at = 0;
     loop {
         let next = match next_token(text, at) {
@@ -26,9 +22,23 @@ pub fn all_tokens(alloc: Global, text: &[u8]) -> Result<Vec<Token>, TermFault>
             Err(LexFault { offset }) => return Err(TermFault::Lex { offset }),
         };
         let Some(token) = next else {
-            return Ok(tokens);
+            return Ok(());
         };
-        tokens.push(token)?;
         at = token.end;
+    }
+}
+
+// The first token from an offset on, in a text that has tokens to its end.
+pub fn token_from(text: &[u8], at: usize) -> Option<Token>
+    requires { at ≤ length text.now }
+    ensures begins { (tokens : List Token) → HasTokens text.now at tokens None →
+        Begins text.now result tokens }
+    ensures past { IfSome result (λ token. at < token.end) }
+    ensures within { IfSome result (λ token. token.end ≤ length text.now) }
+{
+    what_is_read_is_what_the_format_has();
+    match next_token(text, at) {
+        Ok(next) => next,
+        Err(_) => None,
     }
 }

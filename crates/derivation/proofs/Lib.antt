@@ -1,0 +1,9 @@
+pub mod RankLaws
+pub mod MoreGiven
+pub mod StepLaws
+pub mod Gathering
+pub mod Traced
+pub mod Followed
+pub mod MoreRanks
+pub mod Good
+pub mod Shown
