@@ -1,14 +1,11 @@
 //! Whether an interpretation is a model of a case.
 
-ghost use Rattle.std.specs.Prelude.{◌≡◌, ◌<◌, ◌^◌, ◌++◌, ℕ, length, All, IfErr, OnOk};
+ghost use Rattle.std.specs.Prelude.{◌≡◌, ◌<◌, ◌^◌, length, All, IfErr, OnOk};
 ghost use Rattle.std.specs.List.Sorted.{IsStrictlyIncreasing};
-ghost use Rattle.el_logic.specs.declared.types.Part.{Part};
-ghost use Rattle.el_logic.specs.Meaning.{IsInterp, Holds};
+ghost use Rattle.el_logic.specs.Meaning.{IsInterp};
 ghost use Rattle.case_file.specs.Cases.{AreRanksOf};
-ghost use Rattle.case_file.specs.Incoherence.{axioms_for};
 ghost use Rattle.closed_model.specs.Models.{IsModelFor};
-ghost use Rattle.byte_words.specs.Faults.{OrOutOfMemory};
-ghost use Rattle.model_check.specs.Faults.{IsModelFault, IsFirstFailing, sourced_axioms};
+ghost use Rattle.model_check.specs.Faults.{IsModelFault};
 ghost use Rattle.model_check.specs.Inside.Lists.{has_number, source_at, FindsFailing, FindsFailingRow, FindsFailingOf, FindsEmpty};
 
 use crate::ModelFault;

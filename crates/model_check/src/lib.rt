@@ -2,6 +2,8 @@
 #![tactic(auto)]
 
 mod check;
+#[cfg(test)]
+mod tests;
 mod types;
 
 pub use check::check_model;
