@@ -1,0 +1,7 @@
+//! Axioms tested by ascending lists of members, without a walk over the domain.
+#![tactic(auto)]
+
+mod numbers;
+mod sets;
+
+pub use numbers::has_number;
