@@ -1,3 +1,5 @@
 pub mod SearchLaws
 pub mod NumberLaws
 pub mod SetLaws
+pub mod PairLaws
+pub mod PairSteps

@@ -2,6 +2,7 @@
 #![tactic(auto)]
 
 mod numbers;
+mod pairs;
 mod sets;
 
 pub use numbers::has_number;

@@ -22,3 +22,8 @@ IsSet size (Listed numbers) = AreElements size numbers
 pub record IsSetOf (size : ℕ) (Passes : ℕ → Type 0) (set : Members) : Type 0 where
   pub ordered : IsSet size set
   pub same : (x : ℕ) → Has size set x ↔ Passes x
+
+-- ascending numbers, just those that pass
+pub record AreListed (Passes : ℕ → Type 0) (numbers : List ℕ) : Type 0 where
+  pub ascending : IsStrictlyIncreasing numbers
+  pub same : (x : ℕ) → Contains numbers x ↔ Passes x
