@@ -3,3 +3,6 @@ pub mod NumberLaws
 pub mod SetLaws
 pub mod PairLaws
 pub mod PairSteps
+pub mod ListSteps
+pub mod ClassLaws
+pub mod PropertyLaws

@@ -49,9 +49,9 @@ stands size numbers up each (suc n) below =
     let low = rises numbers up p within in
     let before = stands size numbers up each n (omega arith) in
     let own : p ≡ suc n = ⊎_elim
-        (λ (less : n < p). omega arith)
-        (λ (past : p ≤ n). let fall = never_fall numbers up p n past before.0 in absurd (omega (arith, before.1)))
-        (cases_lt n p) in
+    (λ (less : n < p). omega arith)
+    (λ (past : p ≤ n). let fall = never_fall numbers up p n past before.0 in absurd (omega (arith, before.1)))
+    (cases_lt n p) in
     (omega arith, subst (λ k. get_or numbers k 0 ≡ suc n) own at)
 
 -- so there are as many as elements

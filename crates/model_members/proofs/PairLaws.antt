@@ -9,7 +9,8 @@ use Rattle.std.specs.Cmp.{IsTotalOrder}
 use Rattle.std.proofs.lemmas.Cmp.{nat_cmp_total, on_total, then_total, tied_itself}
 use Rattle.std.proofs.lemmas.Bool.{cases_lt, le-ltb, eq-eqb, ne_eqb}
 use Rattle.std.proofs.lemmas.List.Sorted.{searchable_from_sorted}
-use Rattle.model_members.specs.Inside.Pairs.{ComesBefore, Lead}
+use Rattle.closed_model.specs.Models.{ComesBefore}
+use Rattle.model_members.specs.Inside.Pairs.{Lead}
 
 -- by the first number, and then by the second
 abbrev order : ℕ × ℕ → ℕ × ℕ → Ordering

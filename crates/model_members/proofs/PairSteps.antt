@@ -58,7 +58,7 @@ more_ends found start done from step so_far x y = (
       (λ (same, z, led). ⊎_elim
       (λ old. Contains-append_left found ((from, step.1) ∷ []) (x, y) ((so_far x y).1 (inr (same, z, old))))
       (λ new. subst (λ begin. Contains (found ++ (from, step.1) ∷ []) (begin, y)) (sym same)
-          (subst (λ end. Contains (found ++ (from, step.1) ∷ []) (from, end)) (ap (λ (p : ℕ × ℕ). p.1) new) (Contains-push found (from, step.1))))
+      (subst (λ end. Contains (found ++ (from, step.1) ∷ []) (from, end)) (ap (λ (p : ℕ × ℕ). p.1) new) (Contains-push found (from, step.1))))
       (Contains-push_cases done step (z, y) led))
       told),
 )

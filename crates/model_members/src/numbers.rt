@@ -62,6 +62,10 @@ pub fn common(alloc: Global, numbers: &[u32], others: &[u32]) -> Result<Numbers,
     requires { IsStrictlyIncreasing others.now }
     ensures { IfOk result (λ both. both ≡ filter (has_number others.now) numbers.now) }
 {
-    let both = numbers.iter().copied().filter(|x| has_number(others, *x)).collect(alloc)?;
+    let both = numbers
+        .iter()
+        .copied()
+        .filter(|x| has_number(others, *x))
+        .collect(alloc)?;
     Ok(Numbers::from_vec(both))
 }

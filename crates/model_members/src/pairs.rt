@@ -3,7 +3,8 @@
 ghost use Rattle.std.specs.Prelude.{◌≡◌, ◌↔◌, ◌<◌, ◌≤◌, ◌⊎◌, ◌++◌, ℕ, All, IsTrue, OnOk};
 ghost use Rattle.std.specs.List.{AllPairs};
 ghost use Rattle.std.specs.List.Sorted.{IsNonDecreasingBy};
-ghost use Rattle.model_members.specs.Inside.Pairs.{ComesBefore, Lead};
+ghost use Rattle.closed_model.specs.Models.{ComesBefore};
+ghost use Rattle.model_members.specs.Inside.Pairs.{Lead};
 
 use std::alloc::AllocError;
 
@@ -44,7 +45,7 @@ fn split_below(pairs: &[(u32, u32)], limit: u64) -> (&[(u32, u32)], &[(u32, u32)
 }
 
 // The pairs that begin at an element.
-fn steps_from(pairs: &[(u32, u32)], from: u32) -> &[(u32, u32)]
+pub fn steps_from(pairs: &[(u32, u32)], from: u32) -> &[(u32, u32)]
     requires { AllPairs ComesBefore pairs.now }
     ensures { (x y : ℕ) → Lead result.now x y ↔ ((x ≡ from) × Lead pairs.now x y) }
 {
@@ -68,11 +69,7 @@ fn ends_are_among(from: u32, steps: &[(u32, u32)], wanted: &[(u32, u32)]) -> boo
 }
 
 // Whether the wanted pairs have each that a pair and then a step lead to.
-pub fn joins_are_among(
-    pairs: &[(u32, u32)],
-    steps: &[(u32, u32)],
-    wanted: &[(u32, u32)],
-) -> bool
+pub fn joins_are_among(pairs: &[(u32, u32)], steps: &[(u32, u32)], wanted: &[(u32, u32)]) -> bool
     requires steps { AllPairs ComesBefore steps.now }
     requires wanted { AllPairs ComesBefore wanted.now }
     ensures { IsTrue result
@@ -87,7 +84,7 @@ pub fn joins_are_among(
 }
 
 // Adds the pairs that lead from an element to wherever the steps end.
-fn add_ends(
+pub fn add_ends(
     found: &mut Vec<(u32, u32)>,
     from: u32,
     steps: &[(u32, u32)],

@@ -9,8 +9,8 @@ returns-then-not-ends_are_among c =
     let pair = get_or c.args.pairs.now c.loop-from.from-index (0, 0) in (
       (λ no. search rules),
       (λ each. sym c.if-not-ends_are_among.true ∙ c.ends_are_among.ensures.1 (λ z y led.
-      let step = (c.steps_from.ensures z y).0 led in
-      each pair.0 pair.1 y (leads_on c.args.pairs.now c.loop-from.from-index c.loop-from-test.true) (subst (λ by. Lead c.args.steps.now by y) step.0 step.1))),
+          let step = (c.steps_from.ensures z y).0 led in
+          each pair.0 pair.1 y (leads_on c.args.pairs.now c.loop-from.from-index c.loop-from-test.true) (subst (λ by. Lead c.args.steps.now by y) step.0 step.1))),
     )
 
 pub loop-from-preserved : goal.loop-from-preserved
