@@ -48,7 +48,8 @@ fn first_failing(
     let mut number = 0u32;
     for axiom in axioms {
         number += 1;
-        if !holds_by_lists(alloc, i, axiom)? {
+        let holds = holds_by_lists(alloc, i, axiom)?;
+        if !holds {
             return Ok(Some(source_at(origin, number)));
         }
     }
@@ -68,8 +69,8 @@ fn first_failing_row(
 {
     let _case = case.store();
     for rank in ranks {
-        let axioms = case.axioms_of(*rank).as_slice();
-        match first_failing(alloc, i, Origin::Row(*rank), axioms)? {
+        let failing = first_failing(alloc, i, Origin::Row(*rank), case.axioms_of(*rank).as_slice())?;
+        match failing {
             Some(source) => return Ok(Some(source)),
             None => {}
         }
@@ -89,11 +90,13 @@ fn first_failing_of(
     ensures { IfOk result (FindsFailingOf case.now i.now ranks.now) }
 {
     let _case = case.store();
-    match first_failing(alloc, i, Origin::Left, case.left().as_slice())? {
+    let of_left = first_failing(alloc, i, Origin::Left, case.left().as_slice())?;
+    match of_left {
         Some(source) => return Ok(Some(source)),
         None => {}
     }
-    match first_failing(alloc, i, Origin::Right, case.right().as_slice())? {
+    let of_right = first_failing(alloc, i, Origin::Right, case.right().as_slice())?;
+    match of_right {
         Some(source) => return Ok(Some(source)),
         None => {}
     }

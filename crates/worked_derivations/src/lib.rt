@@ -1,4 +1,4 @@
-//! Worked derivations over cases that are made from texts. The crate holds tests alone.
+//! Worked derivations and models over cases that are made from texts. The crate holds tests alone.
 #![tactic(auto)]
 
 #[cfg(test)]
