@@ -69,7 +69,12 @@ fn first_failing_row(
 {
     let _case = case.store();
     for rank in ranks {
-        let failing = first_failing(alloc, i, Origin::Row(*rank), case.axioms_of(*rank).as_slice())?;
+        let failing = first_failing(
+            alloc,
+            i,
+            Origin::Row(*rank),
+            case.axioms_of(*rank).as_slice(),
+        )?;
         match failing {
             Some(source) => return Ok(Some(source)),
             None => {}

@@ -61,5 +61,12 @@ fn finds_the_first_fault(rt: HostRuntime) -> Result<(), Fail> {
     expect(alloc, "too large", 3, &[0], &[3], Err(ModelFault::Form))?;
     expect(alloc, "no members", 3, &[], &[], Err(ModelFault::Class(2)))?;
     expect(alloc, "one member", 3, &[0], &[], Err(ModelFault::Class(3)))?;
-    expect(alloc, "a large domain", u32::MAX, &[0], &[u32::MAX - 1], Ok(()))
+    expect(
+        alloc,
+        "a large domain",
+        u32::MAX,
+        &[0],
+        &[u32::MAX - 1],
+        Ok(()),
+    )
 }

@@ -1,16 +1,14 @@
 -- Sets of members, and what they show of axioms over classes.
-use Rattle.std.proofs.Common.{◌≡◌, ◌+◌, ◌<◌, ◌≤◌, ℕ, List, [], ◌∷◌, ◌++◌, length, get_or, take, drop, All, Contains, ◌⊎◌, ⊎_elim, inl, inr, sym, subst, refl, ap, ◌∙◌, rules, arith}
-use Rattle.std.specs.Prelude.{◌↔◌}
-use Rattle.std.specs.List.Sorted.{IsStrictlyIncreasing}
+use Rattle.std.proofs.Common.{◌≡◌, ◌+◌, ◌<◌, ℕ, List, [], ◌∷◌, ◌++◌, length, get_or, take, drop, All, Contains, ◌⊎◌, ⊎_elim, inl, inr, sym, subst, ap, ◌∙◌, rules, arith}
 use Rattle.std.proofs.lemmas.List.{take_more, drop_more, take-append-drop}
-use Rattle.std.proofs.lemmas.List.Elements.{All-nil, All-cons, All-push, All-head, All-tail, All-weaker, All-contains, All-contains_itself, Contains-append_left, Contains-append_right, Contains-append_cases, Contains-push, Contains-push_cases, Contains-get_or}
+use Rattle.std.proofs.lemmas.List.Elements.{All-nil, All-push, All-head, All-tail, All-weaker, All-contains, All-contains_itself, Contains-append_left, Contains-append_right, Contains-append_cases, Contains-push, Contains-push_cases}
 use Rattle.el_logic.specs.declared.types.Expr.{Expr}
 use Rattle.el_logic.specs.declared.types.Interp.{Interp}
 use Rattle.el_logic.specs.declared.types.Axiom.TheVariants.{Equivalent}
 use Rattle.el_logic.specs.Meaning.{IsMember, IsWithin, AreDisjoint, AreApart, AreRelated, Holds}
 use Rattle.model_members.specs.declared.sets.Members.{Members}
 use Rattle.model_members.specs.declared.sets.Members.TheVariants.{Whole, Listed}
-use Rattle.model_members.specs.Inside.Sets.{Has, HasMembers, AreElements, IsSet, IsSetOf, AreListed}
+use Rattle.model_members.specs.Inside.Sets.{Has, HasMembers, IsSet, IsSetOf, AreListed}
 
 -- a list up to its next element, and whole around it
 pub take_next : {X : Type 0} (xs : List X) (k : ℕ) (x : X) → k < length xs → x ≡ get_or xs k x → take (k + 1) xs ≡ take k xs ++ x ∷ []

@@ -1,5 +1,5 @@
 -- Ascending numbers: where each stands, and how many there can be.
-use Rattle.std.proofs.Common.{add-one, subst, ◌≡◌, ◌+◌, ◌-◌, ◌<◌, ◌≤◌, ℕ, zero, suc, List, length, get_or, All, Contains, ⊎_elim, sym, ◌∙◌, arith}
+use Rattle.std.proofs.Common.{add-one, subst, ◌≡◌, ◌+◌, ◌-◌, ◌<◌, ◌≤◌, ℕ, zero, suc, List, length, get_or, Contains, ⊎_elim, ◌∙◌, arith}
 use Rattle.std.specs.List.Sorted.{IsStrictlyIncreasing}
 use Rattle.std.proofs.lemmas.Bool.{cases_lt}
 use Rattle.std.proofs.lemmas.List.{get_or_default}

@@ -1,14 +1,12 @@
 -- What the steps of tests on sets show.
-use Rattle.std.proofs.Common.{◌≡◌, ◌+◌, ◌<◌, ◌≤◌, ℕ, zero, suc, Bool, true, false, cond, List, [], ◌∷◌, length, get_or, All, Contains, take, ◌⊎◌, ⊎_elim, sym, subst, refl, ◌∙◌, rules, arith}
+use Rattle.std.proofs.Common.{◌≡◌, ◌<◌, ℕ, zero, suc, Bool, true, false, cond, List, [], ◌∷◌, length, Contains, sym, subst, refl, rules, arith}
 use Rattle.std.specs.List.{filter}
-use Rattle.std.specs.List.Sorted.{IsStrictlyIncreasing}
-use Rattle.std.proofs.lemmas.List.{take_all}
-use Rattle.std.proofs.lemmas.List.Elements.{All-contains, All-filter, All-contains_itself, All-more, filter_passes, Contains-append_right, Contains-append_left, Contains-push}
+use Rattle.std.proofs.lemmas.List.Elements.{All-contains, All-filter, All-contains_itself, filter_passes, Contains-append_right, Contains-append_left, Contains-push}
 use Rattle.std.proofs.lemmas.List.Kept.{IsStrictlyIncreasing-filter}
 use Rattle.model_members.specs.declared.sets.Members.{Members}
-use Rattle.model_members.specs.declared.sets.Members.TheVariants.{Whole, Listed}
+use Rattle.model_members.specs.declared.sets.Members.TheVariants.{Listed}
 use Rattle.model_members.specs.Numbers.{has_number}
-use Rattle.model_members.specs.Inside.Sets.{Has, AreElements, IsSet, IsSetOf}
+use Rattle.model_members.specs.Inside.Sets.{AreElements, IsSetOf}
 use Rattle.model_members.proofs.SearchLaws.{found, finds}
 
 -- what an answer tells of two sets it tells of those that they are

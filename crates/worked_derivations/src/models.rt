@@ -14,7 +14,12 @@ const KEPT: &[u32] = &[0, 2];
 const LAST: u32 = u32::MAX - 1;
 
 // What is said of a model: its size, the members of A, B, X and Y, the ranks and what is found.
-type Row = (u32, [&'static [u32]; 4], &'static [u32], Result<(), ModelFault>);
+type Row = (
+    u32,
+    [&'static [u32]; 4],
+    &'static [u32],
+    Result<(), ModelFault>,
+);
 
 const GIVEN: [&[u32]; 4] = [&[1, 3], &[2], &[1, 3], &[1, 2, 3, 4]];
 
@@ -26,11 +31,7 @@ fn row(rank: u32, number: u32) -> Result<(), ModelFault> {
     axiom(Source::Row { rank, number })
 }
 
-fn interpretation(
-    alloc: Global,
-    size: u32,
-    members: &[&[u32]],
-) -> Result<Interp, AllocError> {
+fn interpretation(alloc: Global, size: u32, members: &[&[u32]]) -> Result<Interp, AllocError> {
     let mut classes = MemberLists::new(alloc);
     for numbers in members {
         classes.push(Numbers::from_slice(alloc, *numbers)?)?;
@@ -67,11 +68,31 @@ fn first_faults(rt: HostRuntime) -> Result<(), Fail> {
         (u32::MAX, [&[LAST], &[2], &[LAST], &[2, LAST]], KEPT, Ok(())),
         (5, [&[3, 1, 3], &[2], &[1, 3], &[4, 1, 2, 3]], KEPT, Ok(())),
         (5, GIVEN, &[0, 1, 2], row(1, 2)),
-        (5, [&[1, 3], &[], &[1, 3], &[1, 2, 3, 4]], KEPT, Err(ModelFault::Class(3))),
-        (5, [&[1, 5], &[2], &[1, 3], &[1, 2, 3, 4]], KEPT, Err(ModelFault::Form)),
+        (
+            5,
+            [&[1, 3], &[], &[1, 3], &[1, 2, 3, 4]],
+            KEPT,
+            Err(ModelFault::Class(3)),
+        ),
+        (
+            5,
+            [&[1, 5], &[2], &[1, 3], &[1, 2, 3, 4]],
+            KEPT,
+            Err(ModelFault::Form),
+        ),
         (0, [&[], &[], &[], &[]], KEPT, Err(ModelFault::Form)),
-        (5, [&[1, 3], &[3], &[1, 3], &[1, 2, 3, 4]], KEPT, axiom(Source::Left(1))),
-        (5, [&[1, 3], &[2], &[1, 3], &[1, 2]], KEPT, axiom(Source::Right(1))),
+        (
+            5,
+            [&[1, 3], &[3], &[1, 3], &[1, 2, 3, 4]],
+            KEPT,
+            axiom(Source::Left(1)),
+        ),
+        (
+            5,
+            [&[1, 3], &[2], &[1, 3], &[1, 2]],
+            KEPT,
+            axiom(Source::Right(1)),
+        ),
         (5, [&[1, 3], &[2], &[1], &[1, 2, 3]], KEPT, row(0, 1)),
         (5, [&[1], &[2], &[1, 3], &[1, 2, 3]], KEPT, row(0, 2)),
         (5, [&[1, 3], &[0], &[1, 3], &[1, 2, 3, 4]], KEPT, row(2, 1)),

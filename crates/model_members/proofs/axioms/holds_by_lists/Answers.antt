@@ -1,7 +1,6 @@
-use Rattle.std.proofs.Common.{◌≡◌, ◌∙◌, ◌∷◌, List, ℕ, IsTrue, Bool, ap, sym, subst}
+use Rattle.std.proofs.Common.{◌∙◌, List, ℕ, IsTrue, ap, sym, subst}
 use Rattle.std.specs.Prelude.{◌↔◌, IfOk}
-use Rattle.el_logic.specs.declared.types.Axiom.{Axiom}
-use Rattle.el_logic.specs.declared.types.Axiom.TheVariants.{SubClass, Equivalent, Disjoint, SubRole, EquivalentRoles, Transitive, Reflexive, Domain}
+use Rattle.el_logic.specs.declared.types.Axiom.TheVariants.{Equivalent, SubRole, EquivalentRoles}
 use Rattle.el_logic.specs.Meaning.{Holds}
 use Rattle.model_members.proofs.axioms.holds_by_lists.Goals as goal
 

@@ -1,9 +1,9 @@
-use Rattle.std.proofs.Common.{◌≡◌, ◌∙◌, ◌+◌, ◌<◌, ◌++◌, [], ◌∷◌, ℕ, List, All, take, sym, subst, ap}
+use Rattle.std.proofs.Common.{◌≡◌, ◌∙◌, ◌<◌, ℕ, List, All, take, sym, subst}
 use Rattle.std.specs.Prelude.{IfOk}
 use Rattle.std.proofs.lemmas.List.{take_all}
 use Rattle.std.proofs.lemmas.Result.{IfOk-weaker}
 use Rattle.el_logic.specs.declared.types.Expr.{Expr}
-use Rattle.el_logic.specs.declared.types.Expr.TheVariants.{Top, Bottom, Name, And, Exists}
+use Rattle.el_logic.specs.declared.types.Expr.TheVariants.{Bottom, And, Exists}
 use Rattle.el_logic.specs.Meaning.{IsMember, AreRelated}
 use Rattle.model_members.specs.declared.sets.Members.TheVariants.{Whole, Listed}
 use Rattle.model_members.specs.Inside.Sets.{Has, IsSetOf}

@@ -1,4 +1,4 @@
-use Rattle.std.proofs.Common.{◌<◌, ℕ, All, take}
+use Rattle.std.proofs.Common.{◌<◌, All, take}
 use Rattle.el_logic.specs.Meaning.{IsMember}
 use Rattle.model_members.specs.Inside.Sets.{IsSetOf}
 use Rattle.model_members.proofs.classes.+members.Given as goal

@@ -1,10 +1,9 @@
-use Rattle.std.proofs.Common.{◌∙◌, ◌+◌, ◌++◌, [], ◌∷◌, ℕ, List, Contains, take, drop, sym, subst, rules}
+use Rattle.std.proofs.Common.{◌∙◌, ◌+◌, [], ℕ, List, Contains, take, drop, sym, subst, rules}
 use Rattle.std.proofs.lemmas.Bool.{false≢true}
 use Rattle.std.proofs.lemmas.List.{take_all}
 use Rattle.el_logic.specs.declared.types.Expr.{Expr}
 use Rattle.el_logic.specs.Meaning.{IsMember, AreApart}
-use Rattle.model_members.specs.Inside.Sets.{Has, IsSetOf}
-use Rattle.model_members.proofs.SetLaws.{none_of}
+use Rattle.model_members.specs.Inside.Sets.{IsSetOf}
 use Rattle.model_members.proofs.ClassLaws.{set_none, take_next, split_at, apart_more, apart_at, taken_more, disjoint_from_taken}
 use Rattle.model_members.proofs.classes.are_disjoint.Goals as goal
 

@@ -1,4 +1,4 @@
-use Rattle.std.proofs.Common.{ℕ, Contains, take}
+use Rattle.std.proofs.Common.{Contains, take}
 use Rattle.el_logic.specs.declared.types.Expr.{Expr}
 use Rattle.el_logic.specs.Meaning.{IsMember, AreApart}
 use Rattle.model_members.specs.Inside.Sets.{IsSetOf}

@@ -1,4 +1,4 @@
-use Rattle.std.proofs.Common.{◌≡◌, ℕ, Some, IsTrue, All, Contains, slice_get, sym}
+use Rattle.std.proofs.Common.{◌≡◌, Some, IsTrue, All, Contains, slice_get, sym}
 use Rattle.std.specs.Prelude.{◌↔◌}
 use Rattle.std.proofs.lemmas.Option.{slice_get_within, get_or_from_slice_get}
 use Rattle.std.proofs.lemmas.Result.{IfOk-weaker}

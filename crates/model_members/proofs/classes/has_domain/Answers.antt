@@ -1,5 +1,4 @@
 use Rattle.std.proofs.Common.{ℕ, List, subst, sym}
-use Rattle.std.specs.Prelude.{◌↔◌}
 use Rattle.model_members.specs.Inside.Pairs.{Lead}
 use Rattle.model_members.proofs.classes.has_domain.Goals as goal
 

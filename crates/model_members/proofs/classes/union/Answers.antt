@@ -1,5 +1,5 @@
-use Rattle.std.proofs.Common.{◌∙◌, ◌⊎◌, ◌<◌, ℕ, List, Contains, ap, sym, subst, ⊎_elim, inl, inr}
-use Rattle.model_members.specs.declared.sets.Members.TheVariants.{Whole, Listed}
+use Rattle.std.proofs.Common.{◌∙◌, ◌⊎◌, Contains, ap, sym, subst, ⊎_elim}
+use Rattle.model_members.specs.declared.sets.Members.TheVariants.{Listed}
 use Rattle.model_members.specs.Inside.Sets.{Has, IsSet, IsSetOf}
 use Rattle.model_members.proofs.SetLaws.{of_sets}
 use Rattle.model_members.proofs.ClassLaws.{set_listed, has_below}

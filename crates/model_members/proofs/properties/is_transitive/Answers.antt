@@ -1,4 +1,4 @@
-use Rattle.std.proofs.Common.{ℕ, List, Contains, sym, subst}
+use Rattle.std.proofs.Common.{ℕ, List, sym, subst}
 use Rattle.el_logic.specs.Meaning.{pairs_of}
 use Rattle.closed_model.specs.Models.{HaveTheSame}
 use Rattle.model_members.proofs.PropertyLaws.{same_at, through, transitive_by}

@@ -1,4 +1,4 @@
-use Rattle.std.proofs.Common.{All, take}
+use Rattle.std.proofs.Common.{take}
 use Rattle.std.specs.List.{AllPairs}
 use Rattle.closed_model.specs.Models.{ComesBefore}
 use Rattle.model_members.proofs.PropertyLaws.{LedBy}

@@ -1,7 +1,5 @@
-use Rattle.std.proofs.Common.{◌∙◌, ◌≡◌, ℕ, List, Contains, ap, sym, subst}
-use Rattle.std.specs.List.{filter}
-use Rattle.model_members.specs.declared.sets.Members.TheVariants.{Whole, Listed}
-use Rattle.model_members.specs.Numbers.{has_number}
+use Rattle.std.proofs.Common.{◌∙◌, ℕ, List, Contains, ap, sym, subst}
+use Rattle.model_members.specs.declared.sets.Members.TheVariants.{Listed}
 use Rattle.model_members.specs.Inside.Sets.{Has, IsSet, IsSetOf}
 use Rattle.model_members.proofs.SetLaws.{of_sets, in_both}
 use Rattle.model_members.proofs.sets.intersection.Goals as goal

@@ -1,7 +1,6 @@
-use Rattle.std.proofs.Common.{◌≡◌, ℕ, true, false, IsTrue, sym, subst, arith}
+use Rattle.std.proofs.Common.{ℕ, false, IsTrue, sym, subst, arith}
 use Rattle.std.specs.Prelude.{◌↔◌}
 use Rattle.std.proofs.lemmas.Bool.{false≢true}
-use Rattle.model_members.specs.declared.sets.Members.TheVariants.{Whole, Listed}
 use Rattle.model_members.specs.Inside.Sets.{Has}
 use Rattle.model_members.proofs.SetLaws.{empty_of, none_of}
 use Rattle.model_members.proofs.sets.is_empty.Goals as goal
