@@ -9,7 +9,7 @@ use Rattle.std.proofs.lemmas.List.Folds.{list_any_at}
 use Rattle.std.proofs.lemmas.List.Kept.{AllPairs-from_increasing}
 use Rattle.std.proofs.lemmas.List.Sorted.{searched}
 use Rattle.std.proofs.lemmas.Map.Views.{Contains-from_any}
-use Rattle.model_check.specs.Inside.Lists.{has_number}
+use Rattle.model_members.specs.Numbers.{has_number}
 
 -- what is found is there
 pub found : (numbers : List ℕ) (x : ℕ) → has_number numbers x ≡ true → Contains numbers x
