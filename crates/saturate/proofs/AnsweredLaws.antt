@@ -12,7 +12,7 @@ use Rattle.rule_steps.specs.Counted.{GroundsView, IsCounted, nodes_of}
 use Rattle.rule_steps.specs.Growing.{facts_in, AreDerived, HasGrown}
 use Rattle.rule_steps.specs.Answering.{AreBegunBelow, AreClosedBelow, IsAnswered}
 use Rattle.saturate.specs.Inside.Clashes.{HasClashAt, AreLiveWithin}
-use Rattle.saturate.specs.Inside.Saturated.{AreAnsweredWithin, IsCaughtUp, HasCaughtUpOrClash}
+use Rattle.saturate.specs.Inside.Saturated.{AreAnsweredWithin, IsCaughtUp, IsLive}
 use Rattle.saturate.proofs.ClashLaws.{facts_length}
 use Rattle.saturate.proofs.ReadyLaws.{derived_none, no_premise}
 
@@ -75,7 +75,7 @@ caught_none grounds layers none derived live = record { derived = derived; answe
     answered : AreAnsweredWithin grounds (length layers.base) (length (facts_in layers)) (facts_in layers)
     answered place past under =
         let count = facts_length (whole layers) in
-        let same : length (whole layers) ≡ length layers.base = simp (none, append-nil) in
+        let same : length (whole layers) ≡ length layers.base = ap length (ap (λ (xs : List Proved). layers.base ++ xs) none ∙ append-nil layers.base) in
         absurd (omega arith)
 
 -- what a catching up has answered, in another way

@@ -107,7 +107,7 @@ module _ (table : TableView) (first : ℕ) (more ranks : List ℕ) (closed : IsC
         }
       where
         whole_length : (layers : Topped) → layers.top ≡ [] → length (whole layers) ≡ length layers.base
-        whole_length layers empty = simp (empty, append-nil)
+        whole_length layers empty = ap length (ap (λ (xs : List Proved). layers.base ++ xs) empty ∙ append-nil layers.base)
 
     pub live_after_rows : (grounds : GroundsView) (old new : Topped) (below : ℕ) → grounds ≡ grounds_of table.case ranks → whole old ≡ table.items → old.top ≡ [] → below ≡ length (whole old) → HasGrown grounds old new
         → IsCaughtUp grounds new → AreEntered grounds first below (RowsStartFrom grounds.case.over more) (facts_in new) → IsLive grounds new

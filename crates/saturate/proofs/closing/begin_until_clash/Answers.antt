@@ -7,7 +7,7 @@ use Rattle.saturate.specs.Inside.Saturated.{AreAnsweredWithin}
 use Rattle.saturate.proofs.ClashLaws.{facts_length, live_less, nodes_end}
 use Rattle.saturate.proofs.LoopLaws.{begun_more, grown_length, live_grown}
 use Rattle.saturate.proofs.AnsweredLaws.{caught_more}
-use Rattle.saturate.proofs.DecideLaws.{at_none, at_some}
+use Rattle.saturate.proofs.DecideLaws.{at_none}
 use Rattle.saturate.proofs.closing.begin_until_clash.Goals as goal
 
 pub close_until_clash-requires-clause-within : goal.close_until_clash-requires-clause-within
@@ -32,13 +32,13 @@ loop-node-preserved c =
     let old = c.loop-node.layers in
     let begun = c.begin.new.layers in
     let new = c.close_until_clash.new.layers in
-    let found = c.in_ok-close_until_clash.field-0 in
+    let found = c.in_ok-clash.field-0 in
     let longer = c.growing_takes_nothing_away.ensures.twice grounds old begun new c.begin.ensures.grown c.close_until_clash.ensures.grown in
     record {
       grown = c.growing_takes_nothing_away.ensures.twice grounds c.args.layers.now old new c.loop-node.invariant.grown longer;
       caught_up = caught_more grounds old new (λ p. c.growing_takes_nothing_away.ensures.answered grounds old new p longer) c.len-from.result longer c.len-from.ensures.count c.loop-node.invariant.caught_up
-          (at_none found (AreAnsweredWithin grounds c.len-from.result (length (facts_in new)) (facts_in new)) (HasClashAt grounds.case (facts_in new)) c.in-None.is c.in_ok-close_until_clash.ensures.answered)
-          (at_none found (AreLiveWithin grounds.case 0 (length (facts_in new)) (facts_in new)) (HasClashAt grounds.case (facts_in new)) c.in-None.is c.in_ok-close_until_clash.ensures.live);
+          (at_none found (AreAnsweredWithin grounds c.len-from.result (length (facts_in new)) (facts_in new)) (HasClashAt grounds.case (facts_in new)) c.in-None.is c.in_ok-clash.ensures.answered)
+          (at_none found (AreLiveWithin grounds.case 0 (length (facts_in new)) (facts_in new)) (HasClashAt grounds.case (facts_in new)) c.in-None.is c.in_ok-clash.ensures.live);
       begun = c.growing_takes_nothing_away.ensures.begun grounds begun new (c.loop-node.node + 1) c.close_until_clash.ensures.grown
           (begun_more (nodes_of grounds) (IsCounted grounds) c.loop-node.node (facts_in begun)
           (c.growing_takes_nothing_away.ensures.begun grounds old begun c.loop-node.node c.begin.ensures.grown c.loop-node.invariant.begun) c.in_ok-begin.ensures.begun);

@@ -6,7 +6,7 @@ use Rattle.saturate.specs.Inside.Rows.{IsEntered}
 use Rattle.saturate.specs.Inside.Saturated.{IsCaughtUp}
 use Rattle.saturate.proofs.LoopLaws.{grown_length}
 use Rattle.saturate.proofs.RowWalks.{walk_all, walk_more}
-use Rattle.saturate.proofs.DecideLaws.{at_none, at_some}
+use Rattle.saturate.proofs.DecideLaws.{at_none}
 use Rattle.saturate.proofs.rows.enter_group.Goals as goal
 
 pub enter_place-requires-clause-within : goal.enter_place-requires-clause-within
@@ -20,8 +20,8 @@ loop-place-preserved c =
     let old = c.loop-place.layers in
     let new = c.enter_place.new.layers in
     let longer = grown_length grounds c.args.layers.now old c.loop-place.invariant.grown in
-    let done = at_none c.in_ok-enter_place.field-0 (IsCaughtUp grounds new × IsEntered grounds c.args.first (facts_in new) c.in-Some.place) (HasClashAt grounds.case (facts_in new)) c.in-None.is
-    c.in_ok-enter_place.ensures.entered in
+    let done = at_none c.in_ok-clash.field-0 (IsCaughtUp grounds new × IsEntered grounds c.args.first (facts_in new) c.in-Some.place) (HasClashAt grounds.case (facts_in new)) c.in-None.is
+    c.in_ok-clash.ensures.entered in
     record {
       grown = c.growing_takes_nothing_away.ensures.twice grounds c.args.layers.now old new c.loop-place.invariant.grown c.enter_place.ensures.grown;
       caught_up = done.0;
@@ -30,8 +30,8 @@ loop-place-preserved c =
           (group_at c.args.side) c.args.group c.loop-place.bound c.in-Some.place c.args.below (omega (arith, c.requires.within)) c.in-Some.ensures c.loop-place.invariant.entered done.1;
     }
 
-pub returns-in_default-clause-entered : goal.returns-in_default-clause-entered
-returns-in_default-clause-entered c = (
+pub returns-clause-entered : goal.returns-clause-entered
+returns-clause-entered c = (
   c.loop-place.invariant.caught_up,
   walk_all c.args.grounds.now c.args.first (facts_in c.loop-place.layers) c.args.side c.args.group c.loop-place.bound c.args.below c.in_default.ensures c.loop-place.invariant.entered,
 )

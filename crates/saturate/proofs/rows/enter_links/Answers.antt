@@ -9,11 +9,11 @@ use Rattle.rule_steps.specs.Growing.{facts_in}
 use Rattle.saturate.specs.Inside.Clashes.{HasClashAt}
 use Rattle.saturate.specs.Inside.Saturated.{IsCaughtUp}
 use Rattle.saturate.proofs.LoopLaws.{grown_length}
-use Rattle.saturate.proofs.DecideLaws.{at_none, at_some}
+use Rattle.saturate.proofs.DecideLaws.{at_none}
 use Rattle.saturate.proofs.rows.enter_links.Goals as goal
 
-pub loop-node-initial : goal.loop-node-initial
-loop-node-initial c = record {
+pub loop-node-init : goal.loop-node-init
+loop-node-init c = record {
   grown = c.growing_takes_nothing_away.ensures.none c.args.grounds.now c.args.layers.now;
   caught_up = c.requires.caught_up;
   entered = links_none c.args.grounds.now c.args.first c.args.below c.args.role (facts_in c.args.layers.now);
@@ -29,8 +29,8 @@ loop-node-preserved c =
     let old = c.loop-node.layers in
     let new = c.enter_group.new.layers in
     let longer = grown_length grounds c.args.layers.now old c.loop-node.invariant.grown in
-    let done = at_none c.in_ok-enter_group.field-0 (IsCaughtUp grounds new × AreEntered grounds c.args.first c.args.below (IsOfGroup FactSide.From (FactGroup.Links c.loop-node.node c.args.role)) (facts_in new)) (HasClashAt grounds.case (facts_in new)) c.in-None.is
-    c.in_ok-enter_group.ensures.entered in
+    let done = at_none c.in_ok-clash.field-0 (IsCaughtUp grounds new × AreEntered grounds c.args.first c.args.below (IsOfGroup FactSide.From (FactGroup.Links c.loop-node.node c.args.role)) (facts_in new)) (HasClashAt grounds.case (facts_in new)) c.in-None.is
+    c.in_ok-clash.ensures.entered in
     record {
       grown = c.growing_takes_nothing_away.ensures.twice grounds c.args.layers.now old new c.loop-node.invariant.grown c.enter_group.ensures.grown;
       caught_up = done.0;

@@ -8,5 +8,5 @@ abbrev pub invariant-loop-said : goal.invariant-loop-said
 invariant-loop-said l = record {
   grown : HasGrown l.grounds l.fn.layers l.layers;
   caught_up : IsCaughtUp l.grounds l.layers;
-  entered : AreEntered l.grounds l.first l.below (FirstStart l.said-items l.said-index StartsFrom) (facts_in l.layers);
+  entered : AreEntered l.grounds l.first l.below (FirstStart l.axioms l.said-index StartsFrom) (facts_in l.layers);
 }

@@ -9,5 +9,5 @@ abbrev pub invariant-loop-rank : goal.invariant-loop-rank
 invariant-loop-rank l = record {
   grown : HasGrown l.grounds l.fn.layers l.layers;
   caught_up : IsCaughtUp l.grounds l.layers;
-  entered : AreEntered l.grounds l.first l.below (FirstStart l.rank-items l.rank-index (λ rank. StartFrom (slice_index_or l.grounds.case.over rank []))) (facts_in l.layers);
+  entered : AreEntered l.grounds l.first l.below (FirstStart l.ranks l.rank-index (λ rank. StartFrom (slice_index_or l.grounds.case.over rank []))) (facts_in l.layers);
 }
