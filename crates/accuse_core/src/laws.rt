@@ -9,7 +9,7 @@ ghost use Rattle.accuse_core.specs.declared.event.Event.{Event};
 ghost use Rattle.accuse_core.specs.declared.journal.Entry.{Entry};
 ghost use Rattle.accuse_core.specs.declared.mark.Mark.{Mark};
 ghost use Rattle.accuse_core.specs.Marks.{is_decided, is_yes_over, kept_unless_removed, with_kept, with_removed, with_note, with_block, block_of, settled, opening, mark_at, kept_of, number_kept, front_of};
-ghost use Rattle.accuse_core.specs.Events.{outcome, IsAllowed};
+ghost use Rattle.accuse_core.specs.Events.{outcome, on_take, on_take_front, IsAllowed};
 ghost use Rattle.accuse_core.specs.Journal.{after, AreAllowed, replayed, IsJournal};
 ghost use Rattle.accuse_core.specs.Sound.{AreKeptBeforeFront, AreSound};
 
@@ -109,6 +109,12 @@ pub fn decided_ranks_keep_their_marks()
     ensures { (marks : List Mark) (event : Event) (rank : ℕ)
         → is_decided (mark_at marks rank) ≡ true
         → mark_at (outcome marks event).marks rank ≡ mark_at marks rank }
+{}
+
+/// Asking for a rank, or for the front, leaves the marks.
+pub fn asking_leaves_the_marks()
+    ensures rank { (marks : List Mark) (rank : ℕ) → (on_take marks rank).marks ≡ marks }
+    ensures front { (marks : List Mark) → (on_take_front marks).marks ≡ marks }
 {}
 
 /// No event adds or takes away a rank.
