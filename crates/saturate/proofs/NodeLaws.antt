@@ -16,7 +16,6 @@ use Rattle.el_rules.specs.Following.{IsEarlier}
 use Rattle.case_file.specs.Cases.{theory_of}
 use Rattle.rule_steps.specs.Counted.{GroundsView, nodes_of}
 use Rattle.rule_steps.specs.Growing.{AreDerived}
-use Rattle.saturate.proofs.Places.{item_at}
 
 -- the first node of the fact is one of the nodes
 abbrev IsFromNode : List Node → Fact → Type 0
@@ -40,7 +39,8 @@ given_from nodes Named One Two one Rule.Dom (Sub a c) (r, b, said, is, says, p) 
 given_from nodes Named One Two one Rule.Disj (Sub a n) (c, d, said, same, is, says, p, q) = one (Sub a c) p
 given_from nodes Named One Two one _ fact given = absurd given
 
-module _ (grounds : GroundsView) (items : List Proved) (derived : AreDerived grounds items) where
+module _ (grounds : GroundsView) (items : List Proved) (item_at : (k : ℕ) (fact : Fact) → slice_get (facts_of items) k ≡ Some fact → (item : Proved) × (slice_get items k ≡ Some item) × (item.fact ≡ fact))
+    (derived : AreDerived grounds items) where
   -- the first items have such facts
   first_from : (count k : ℕ) (item : Proved) → k < count → slice_get items k ≡ Some item → IsFromNode (nodes_of grounds) item.fact
   first_from zero k item less at = absurd (omega arith)
@@ -51,5 +51,5 @@ module _ (grounds : GroundsView) (items : List Proved) (derived : AreDerived gro
   -- so each link is from a node
   pub link_from_node : (k a r b : ℕ) → slice_get (facts_of items) k ≡ Some (Link a r b) → a < length (nodes_of grounds)
   link_from_node k a r b at =
-      let found = item_at items k (Link a r b) at in
+      let found = item_at k (Link a r b) at in
       subst (IsFromNode (nodes_of grounds)) found.2 (first_from (k + 1) k found.0 (omega arith) found.1)

@@ -32,7 +32,7 @@ enter_rows-requires-clause-inclusions c =
     let case = c.args.snapshot.now.case in
     let is_case = subst IsCase (c.deref.ensures ∙ c.case.ensures.case) c.store-case.ensures.case in
     subst (λ (v : CaseView). HaveRowsInclusions v.over) (sym (ap (λ g. g.case) c.requires.grounds))
-    (subst HaveRowsInclusions (sym (ap (λ (v : CaseView). v.over) is_case.built)) (c.rows_have_inclusions.ensures (input_of case) is_case.given))
+    (subst HaveRowsInclusions (sym (ap (λ (v : CaseView). v.over) is_case.built)) (c.rows_have_inclusions.ensures.rows (input_of case) is_case.given))
 
 pub enter_rows-requires-clause-ranks : goal.enter_rows-requires-clause-ranks
 enter_rows-requires-clause-ranks c rank there =
