@@ -95,9 +95,9 @@ module _ (table : TableView) (first : ℕ) (more ranks : List ℕ) (closed : IsC
         let old_long = facts_length (whole old) in
         let rows = rows_answered table.case table.ranks first more ranks added below (facts_in new) entered in
         let first_closed : AreClosedBelow (nodes_of grounds) (IsCounted grounds) below (facts_in new) =
-            subst (AreClosedBelow (nodes_of grounds) (IsCounted grounds) below) (sym is)
-            (subst (λ n. AreClosedBelow (nodes_of grounds) (IsCounted grounds) n (facts ++ news)) (sym end)
-            (close news (subst (λ n. AreAnsweredByRows grounds first n (facts ++ news)) end (subst (AreAnsweredByRows grounds first below) is rows)))) in
+        subst (AreClosedBelow (nodes_of grounds) (IsCounted grounds) below) (sym is)
+        (subst (λ n. AreClosedBelow (nodes_of grounds) (IsCounted grounds) n (facts ++ news)) (sym end)
+        (close news (subst (λ n. AreAnsweredByRows grounds first n (facts ++ news)) end (subst (AreAnsweredByRows grounds first below) is rows)))) in
         record {
           closed = to_end grounds (facts_in new)
               (closed_on grounds (facts_in new) (λ p. step grounds p (facts_in new)) below (length (facts_in new)) (omega arith) first_closed

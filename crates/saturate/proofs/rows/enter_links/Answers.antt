@@ -43,8 +43,9 @@ pub returns-clause-entered : goal.returns-clause-entered
 returns-clause-entered c =
     let grounds = c.args.grounds.now in
     let new = c.loop-node.layers in
-    let past = nodes_end grounds.case c.store.result.now c.nodes-node-end.result c.loop-node.node c.store.ensures c.nodes-node-end.ensures c.loop-node-test.false in
-    (c.loop-node.invariant.caught_up,
-    links_all grounds c.args.first c.args.below c.args.role c.loop-node.node (facts_in new)
-    (λ k a r b at. let from = c.links_lead_from_nodes.ensures grounds (whole new) k a r b c.loop-node.invariant.caught_up.derived at in omega (arith, from, past))
-    c.loop-node.invariant.entered)
+    let past = nodes_end grounds.case c.store.result.now c.nodes-node-end.result c.loop-node.node c.store.ensures c.nodes-node-end.ensures c.loop-node-test.false in (
+      c.loop-node.invariant.caught_up,
+      links_all grounds c.args.first c.args.below c.args.role c.loop-node.node (facts_in new)
+          (λ k a r b at. let from = c.links_lead_from_nodes.ensures grounds (whole new) k a r b c.loop-node.invariant.caught_up.derived at in omega (arith, from, past))
+          c.loop-node.invariant.entered,
+    )
