@@ -1,5 +1,5 @@
 -- Which rows are marked, one rank after another.
-use Rattle.std.proofs.Common.{◌≡◌, ℕ, ◌+◌, ◌<◌, Bool, true, false, ◌||◌, ⊎_elim, List, [], length, take, set, get_or, zero-add, sym, subst, ap, ◌∙◌, eqb, slice_index}
+use Rattle.std.proofs.Common.{◌≡◌, ℕ, ◌+◌, ◌<◌, true, false, ◌||◌, ⊎_elim, List, [], length, take, set, get_or, zero-add, sym, subst, ap, ◌∙◌, eqb, slice_index}
 use Rattle.std.specs.Prelude.{replicate}
 use Rattle.std.specs.List.{range_with_len}
 use Rattle.std.proofs.Math.Bool.{or-true, or-false}

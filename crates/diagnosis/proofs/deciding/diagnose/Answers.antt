@@ -1,4 +1,4 @@
-use Rattle.std.proofs.Common.{◌≡◌, ℕ, ◌<◌, sym, subst, ap, ◌∙◌, rules, arith}
+use Rattle.std.proofs.Common.{◌≡◌, ◌<◌, subst, ap, ◌∙◌, rules, arith}
 use Rattle.el_logic.specs.declared.types.Part.{Part}
 use Rattle.case_file.specs.Cases.{CaseView}
 use Rattle.case_file.specs.Incoherence.{IsIncoherentFor}

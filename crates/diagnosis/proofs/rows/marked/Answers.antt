@@ -1,8 +1,7 @@
-use Rattle.std.proofs.Common.{◌≡◌, ◌∙◌, ℕ, ◌<◌, length, take, get_or, slice_index, set, true, false, ap, arith, rules}
+use Rattle.std.proofs.Common.{◌≡◌, ◌∙◌, ℕ, ◌<◌, length, get_or, slice_index, set, true, false, ap, arith, rules}
 use Rattle.std.specs.Prelude.{replicate}
 use Rattle.std.proofs.lemmas.Option.{get_or_from_slice_get}
 use Rattle.std.proofs.lemmas.List.Elements.{All-get_or}
-use Rattle.diagnosis.specs.Rows.{keep_of}
 use Rattle.diagnosis.proofs.RowLaws.{none_marked, one_more_marked}
 use Rattle.diagnosis.proofs.rows.marked.Goals as goal
 
