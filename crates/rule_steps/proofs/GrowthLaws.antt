@@ -144,7 +144,7 @@ module _ (grounds : GroundsView) where
   placed_stays old new k fact grown (place, below, at) = (place, below, at_grown old new place fact grown at)
 
 -- the item of a fact at a place
-item_at : (items : List Proved) (k : ℕ) (fact : Fact) → slice_get (facts_of items) k ≡ Some fact → (item : Proved) × (slice_get items k ≡ Some item) × (item.fact ≡ fact)
+pub item_at : (items : List Proved) (k : ℕ) (fact : Fact) → slice_get (facts_of items) k ≡ Some fact → (item : Proved) × (slice_get items k ≡ Some item) × (item.fact ≡ fact)
 item_at [] k fact at = absurd (none-some fact at)
 item_at (item ∷ items) zero fact at = (item, refl, same_Some item.fact fact at)
 item_at (item ∷ items) (suc k) fact at = item_at items k fact at

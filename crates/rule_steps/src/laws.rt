@@ -1,16 +1,19 @@
 //! Laws of a worklist over places.
 
-ghost use Rattle.std.specs.Prelude.{◌+◌, ◌<◌, ◌≤◌, ◌⊎◌, ℕ, List, Some, Contains, length};
+ghost use Rattle.std.specs.Prelude.{◌≡◌, ◌+◌, ◌<◌, ◌≤◌, ◌⊎◌, ℕ, List, Some, Contains, length, slice_get};
 ghost use Rattle.fact_table.specs.declared.types.Fact.{Fact};
 ghost use Rattle.fact_table.specs.declared.types.Proved.{Proved};
+ghost use Rattle.fact_table.specs.Lists.{facts_of};
 ghost use Rattle.fact_layers.specs.Tops.{Topped};
+ghost use Rattle.concept_store.specs.declared.types.NodeAxiom.{NodeAxiom};
 ghost use Rattle.el_rules.specs.Following.{AreClosed};
+ghost use Rattle.el_rules.specs.Saying.{MakesReflexive};
 ghost use Rattle.case_file.specs.declared.types.CaseInput.{CaseInput};
 ghost use Rattle.case_file.specs.Cases.{IsCaseInput, case_of};
 ghost use Rattle.rule_steps.specs.Counted.{GroundsView, IsCounted, IsCountedSince, nodes_of};
 ghost use Rattle.rule_steps.specs.Growing.{facts_in, AreDerived, HasGrown};
 ghost use Rattle.rule_steps.specs.Answering.{AreClosedBelow, IsAnswered, IsAnsweredByInclusions, AreBegunBelow};
-ghost use Rattle.rule_steps.specs.RowAxioms.{HaveRowsInclusions};
+ghost use Rattle.rule_steps.specs.RowAxioms.{IsInclusion, HaveRowsInclusions};
 
 /// If what is below a place is closed, and the place is answered, what is below the next is closed.
 pub fn an_answered_place_is_closed()
@@ -43,9 +46,20 @@ pub fn growing_takes_nothing_away()
         → AreBegunBelow (nodes_of grounds) (IsCounted grounds) n (facts_in new) }
 {}
 
-/// Each axiom of a row is an inclusion of nodes, or of one role in another.
+/// Each axiom of a row is an inclusion of nodes, or of one role in another, and no such axiom makes
+/// a role reflexive.
 pub fn rows_have_inclusions()
-    ensures { (input : CaseInput) → IsCaseInput input → HaveRowsInclusions (case_of input).over }
+    ensures rows { (input : CaseInput) → IsCaseInput input
+        → HaveRowsInclusions (case_of input).over }
+    ensures reflexive { (said : NodeAxiom) (role : ℕ) → IsInclusion said
+        → ¬ (MakesReflexive said role) }
+{}
+
+/// A fact at a place is that of the item at this place.
+pub fn facts_stand_where_their_items_do()
+    ensures { (items : List Proved) (place : ℕ) (fact : Fact)
+        → slice_get (facts_of items) place ≡ Some fact
+        → (item : Proved) × (slice_get items place ≡ Some item) × (item.fact ≡ fact) }
 {}
 
 /// What is closed for some rows is closed for further ones once the inclusions of these are

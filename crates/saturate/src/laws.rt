@@ -17,9 +17,11 @@ ghost use Rattle.saturate.specs.Inside.Rows.{AreAnsweredByRows};
 ghost use Rattle.saturate.specs.Inside.Saturated.{grounds_of, AddsRanks};
 
 use case_file::models_have_readings;
-use concept_store::nodes_stand_in_order;
+use concept_store::{nodes_stand_in_order, stores_have_a_role_for_each_part};
 use el_rules::what_follows_is_true;
-use rule_steps::{further_rows_need_only_their_inclusions, rows_have_inclusions};
+use rule_steps::{
+    facts_stand_where_their_items_do, further_rows_need_only_their_inclusions, rows_have_inclusions,
+};
 
 /// Facts that follow show that a node is empty which they put within `owl:Nothing`.
 pub fn facts_show_emptiness()
@@ -32,6 +34,7 @@ pub fn facts_show_emptiness()
     what_follows_is_true();
     models_have_readings();
     nodes_stand_in_order();
+    facts_stand_where_their_items_do();
 }
 
 /// Each link that follows is by a role of the case.
@@ -41,6 +44,8 @@ pub fn links_are_by_roles()
         → AreLinksWithin (length case.store.roles) (facts_of items) }
 {
     nodes_stand_in_order();
+    stores_have_a_role_for_each_part();
+    facts_stand_where_their_items_do();
 }
 
 /// The facts of a closed table need only be answered by the rows that are added.

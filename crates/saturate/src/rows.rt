@@ -22,7 +22,8 @@ fn answer_old(
 ) -> Result<(), AllocError>
     requires { below ≤ length (facts_in layers.old) }
     ensures grown { HasGrown grounds.now layers.old layers.new }
-    ensures answered { OnOk result (AreAnsweredByRows grounds.now first below (facts_in layers.new)) }
+    ensures answered { OnOk result
+        (AreAnsweredByRows grounds.now first below (facts_in layers.new)) }
 {
     growing_takes_nothing_away();
     for place in 0..below {

@@ -23,7 +23,7 @@ use closed_model::{ClosedTable, a_closed_table_shows_coherence, closed_facts_sho
 use derivation::{Derivation, reasons_name_earlier_places, trace, traces_are_good};
 use el_logic::{Numbers, Part};
 use fact_layers::Layers;
-use rule_steps::Grounds;
+use rule_steps::{Grounds, facts_stand_where_their_items_do};
 use std::alloc::{AllocError, Global};
 use std::sync::Arc;
 
@@ -60,6 +60,7 @@ fn first_empty(
     cases_have_nodes();
     traces_are_good();
     reasons_name_earlier_places();
+    facts_stand_where_their_items_do();
     let _case = case.store();
     let none: &[u32] = &[];
     let grounds = Grounds::new(case, tables, part, none);

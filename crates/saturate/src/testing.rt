@@ -15,7 +15,7 @@ use closed_model::{ClosedTable, a_closed_table_shows_coherence};
 use derivation::{reasons_name_earlier_places, trace, traces_are_good};
 use el_logic::{Numbers, Part};
 use fact_layers::Layers;
-use rule_steps::Grounds;
+use rule_steps::{Grounds, facts_stand_where_their_items_do};
 use std::alloc::{AllocError, Global};
 
 // The verdict on ranks that add to those of a table, the first of the added ones given.
@@ -33,6 +33,7 @@ fn test_from(
     facts_show_emptiness();
     traces_are_good();
     reasons_name_earlier_places();
+    facts_stand_where_their_items_do();
     let case = snapshot.case();
     let _case = case.store();
     let grounds = Grounds::new(case, snapshot.tables(), Part::Both, ranks);

@@ -2,6 +2,7 @@ use Rattle.std.proofs.Common.{◌≡◌, ◌∙◌, ap, subst}
 use Rattle.std.specs.Arc.{arc_value}
 use Rattle.std.proofs.lemmas.List.Elements.{All-contains_itself}
 use Rattle.el_logic.specs.declared.types.Part.{Part}
+use Rattle.fact_table.specs.declared.types.Fact.TheVariants.{Sub}
 use Rattle.fact_layers.specs.Tops.{whole}
 use Rattle.case_file.specs.Cases.{CaseView, IsCase}
 use Rattle.closed_model.specs.ClosedTables.{TableView}
@@ -36,7 +37,8 @@ returns-in_ok-trace-in-Some c =
       clash_incoherent case Part.Both ranks (facts_in layers) place
           (λ node must there. c.facts_show_emptiness.ensures case Part.Both ranks items node is_case c.requires.ranks.below follows must there) found,
       (good_trace case Part.Both ranks items place found.0 c.in_ok-trace-in-Some.field-0 (c.traces_are_good.ensures.good case Part.Both ranks items place c.in_ok-trace-in-Some.field-0 follows c.in_ok-trace-in-Some.ensures)
-          (λ item at. c.traces_are_good.ensures.goal items place c.in_ok-trace-in-Some.field-0 item c.in_ok-trace-in-Some.ensures at) found.1 found.2).0,
+          (λ item at. c.traces_are_good.ensures.goal items place c.in_ok-trace-in-Some.field-0 item c.in_ok-trace-in-Some.ensures at) found.1
+          (c.facts_stand_where_their_items_do.ensures items place (Sub found.0 1) found.2)).0,
     )
 
 pub frozen-requires : goal.frozen-requires
