@@ -31,7 +31,7 @@ pub fn facts_closed_to_the_end_are_closed()
         → AreClosed (nodes_of grounds) (IsCounted grounds) facts }
 {}
 
-/// A list that grows twice has grown, and what is closed and begun stays so.
+/// A list that grows twice has grown, and what is closed, begun and answered stays so.
 pub fn growing_takes_nothing_away()
     ensures none { (grounds : GroundsView) (layers : Topped) → HasGrown grounds layers layers }
     ensures twice { (grounds : GroundsView) (one two three : Topped)
@@ -44,6 +44,15 @@ pub fn growing_takes_nothing_away()
         → HasGrown grounds old new
         → AreBegunBelow (nodes_of grounds) (IsCounted grounds) n (facts_in old)
         → AreBegunBelow (nodes_of grounds) (IsCounted grounds) n (facts_in new) }
+    ensures answered { (grounds : GroundsView) (old new : Topped) (p : ℕ)
+        → HasGrown grounds old new → p < length (facts_in old)
+        → IsAnswered (nodes_of grounds) (IsCounted grounds) p (facts_in old)
+        → IsAnswered (nodes_of grounds) (IsCounted grounds) p (facts_in new) }
+    ensures by_inclusions { (grounds : GroundsView) (old new : Topped) (first p : ℕ)
+        → HasGrown grounds old new → p < length (facts_in old)
+        → IsAnsweredByInclusions (nodes_of grounds) (IsCountedSince (Some first) grounds) p
+        (facts_in old) → IsAnsweredByInclusions (nodes_of grounds)
+        (IsCountedSince (Some first) grounds) p (facts_in new) }
 {}
 
 /// Each axiom of a row is an inclusion of nodes, or of one role in another, and no such axiom makes

@@ -10,7 +10,7 @@ use Rattle.saturate.proofs.OldFacts.{closed_in_longer, begun_in_closed}
 use Rattle.saturate.proofs.laws.closed_tables_are_closed_for_more_rows.Goals as goal
 
 pub returns-clause-closed : goal.returns-clause-closed
-returns-clause-closed c table ranks first more is closed added answered =
+returns-clause-closed c table first late ranks more is closed added answered =
     let case = table.case in
     let facts = facts_of table.items in
     let rows = subst HaveRowsInclusions (sym (ap (λ (v : CaseView). v.over) is.built)) (c.rows_have_inclusions.ensures.rows (input_of case) is.given) in
@@ -19,7 +19,7 @@ returns-clause-closed c table ranks first more is closed added answered =
     answered
 
 pub returns-clause-begun : goal.returns-clause-begun
-returns-clause-begun c table ranks first more is closed added node below rule fact of_node given =
+returns-clause-begun c table first late ranks more is closed added node below rule fact of_node given =
     let case = table.case in
     let facts = facts_of table.items in
     let rows = subst HaveRowsInclusions (sym (ap (λ (v : CaseView). v.over) is.built)) (c.rows_have_inclusions.ensures.rows (input_of case) is.given) in
