@@ -17,11 +17,32 @@ type Row = (Event, Reply);
 // One worker, down the ranks.
 const WHOLE_PATH: [Row; 7] = [
     (Event::Take { worker: 0, rank: 0 }, Reply::Seen(0)),
-    (Event::Yes { worker: 0, rank: 0, seen: 0 }, Reply::Kept),
+    (
+        Event::Yes {
+            worker: 0,
+            rank: 0,
+            seen: 0,
+        },
+        Reply::Kept,
+    ),
     (Event::Take { worker: 0, rank: 1 }, Reply::Seen(1)),
-    (Event::No { worker: 0, rank: 1, seen: 1 }, Reply::Marked),
+    (
+        Event::No {
+            worker: 0,
+            rank: 1,
+            seen: 1,
+        },
+        Reply::Marked,
+    ),
     (Event::Take { worker: 0, rank: 2 }, Reply::Seen(1)),
-    (Event::Yes { worker: 0, rank: 2, seen: 1 }, Reply::Kept),
+    (
+        Event::Yes {
+            worker: 0,
+            rank: 2,
+            seen: 1,
+        },
+        Reply::Kept,
+    ),
     (Event::TakeFront { worker: 0 }, Reply::Done),
 ];
 
@@ -29,39 +50,144 @@ const WHOLE_PATH: [Row; 7] = [
 const AN_OLD_YES: [Row; 8] = [
     (Event::Take { worker: 1, rank: 0 }, Reply::Seen(0)),
     (Event::Take { worker: 2, rank: 1 }, Reply::Seen(0)),
-    (Event::Yes { worker: 2, rank: 1, seen: 0 }, Reply::Noted),
-    (Event::Yes { worker: 1, rank: 0, seen: 0 }, Reply::Kept),
+    (
+        Event::Yes {
+            worker: 2,
+            rank: 1,
+            seen: 0,
+        },
+        Reply::Noted,
+    ),
+    (
+        Event::Yes {
+            worker: 1,
+            rank: 0,
+            seen: 0,
+        },
+        Reply::Kept,
+    ),
     (Event::TakeFront { worker: 2 }, Reply::Front(1, 1)),
-    (Event::Yes { worker: 2, rank: 1, seen: 0 }, Reply::Stale(1)),
-    (Event::No { worker: 2, rank: 1, seen: 1 }, Reply::Marked),
+    (
+        Event::Yes {
+            worker: 2,
+            rank: 1,
+            seen: 0,
+        },
+        Reply::Stale(1),
+    ),
+    (
+        Event::No {
+            worker: 2,
+            rank: 1,
+            seen: 1,
+        },
+        Reply::Marked,
+    ),
     (Event::TakeFront { worker: 1 }, Reply::Done),
 ];
 
 // Rank 5 is removed ahead of the front, and stays removed.
 const AN_EARLY_NO: [Row; 6] = [
-    (Event::Yes { worker: 1, rank: 0, seen: 0 }, Reply::Kept),
-    (Event::No { worker: 1, rank: 1, seen: 1 }, Reply::Marked),
-    (Event::No { worker: 1, rank: 5, seen: 1 }, Reply::Marked),
-    (Event::Yes { worker: 2, rank: 5, seen: 0 }, Reply::Late),
+    (
+        Event::Yes {
+            worker: 1,
+            rank: 0,
+            seen: 0,
+        },
+        Reply::Kept,
+    ),
+    (
+        Event::No {
+            worker: 1,
+            rank: 1,
+            seen: 1,
+        },
+        Reply::Marked,
+    ),
+    (
+        Event::No {
+            worker: 1,
+            rank: 5,
+            seen: 1,
+        },
+        Reply::Marked,
+    ),
+    (
+        Event::Yes {
+            worker: 2,
+            rank: 5,
+            seen: 0,
+        },
+        Reply::Late,
+    ),
     (Event::Take { worker: 2, rank: 5 }, Reply::Over),
     (Event::TakeFront { worker: 2 }, Reply::Front(2, 1)),
 ];
 
 // A rank is noted less than 64 ranks ahead of the front, and no further.
 const A_FAR_YES: [Row; 4] = [
-    (Event::Yes { worker: 1, rank: 0, seen: 0 }, Reply::Kept),
-    (Event::No { worker: 1, rank: 1, seen: 1 }, Reply::Marked),
-    (Event::Yes { worker: 1, rank: 66, seen: 1 }, Reply::Far),
-    (Event::Yes { worker: 1, rank: 65, seen: 1 }, Reply::Noted),
+    (
+        Event::Yes {
+            worker: 1,
+            rank: 0,
+            seen: 0,
+        },
+        Reply::Kept,
+    ),
+    (
+        Event::No {
+            worker: 1,
+            rank: 1,
+            seen: 1,
+        },
+        Reply::Marked,
+    ),
+    (
+        Event::Yes {
+            worker: 1,
+            rank: 66,
+            seen: 1,
+        },
+        Reply::Far,
+    ),
+    (
+        Event::Yes {
+            worker: 1,
+            rank: 65,
+            seen: 1,
+        },
+        Reply::Noted,
+    ),
 ];
 
 // The front comes to rank 1, which waits with a yes over all kept ranks.
 const A_NOTED_RANK: [Row; 6] = [
     (Event::Take { worker: 2, rank: 1 }, Reply::Seen(0)),
-    (Event::Yes { worker: 2, rank: 1, seen: 0 }, Reply::Noted),
-    (Event::No { worker: 1, rank: 0, seen: 0 }, Reply::Marked),
+    (
+        Event::Yes {
+            worker: 2,
+            rank: 1,
+            seen: 0,
+        },
+        Reply::Noted,
+    ),
+    (
+        Event::No {
+            worker: 1,
+            rank: 0,
+            seen: 0,
+        },
+        Reply::Marked,
+    ),
     (Event::TakeFront { worker: 1 }, Reply::Front(2, 1)),
-    (Event::Yes { worker: 1, rank: 2, seen: 1 }, Reply::Kept),
+    (
+        Event::Yes {
+            worker: 1,
+            rank: 2,
+            seen: 1,
+        },
+        Reply::Kept,
+    ),
     (Event::TakeFront { worker: 2 }, Reply::Done),
 ];
 
@@ -88,12 +214,7 @@ fn rows_of(alloc: Global, letters: &str) -> Result<String, Fail> {
 }
 
 // How many of the rows, from the first on, are replied to as they say.
-fn rows_met(
-    alloc: Global,
-    base: &ClosedTable,
-    book: &mut Book,
-    rows: &[Row],
-) -> Result<usize, Fail>
+fn rows_met(alloc: Global, base: &ClosedTable, book: &mut Book, rows: &[Row]) -> Result<usize, Fail>
     requires none { base.now.ranks ≡ [] }
     requires case { base.now.case ≡ book.old.case }
 {

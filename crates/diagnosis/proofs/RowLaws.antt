@@ -19,8 +19,8 @@ pub length-keep_of : (order ranks : List ℕ) → length (keep_of order ranks) �
 length-keep_of order ranks = length-map-range_with_len (has_rank_of order ranks) 0 (length order)
 
 -- the mark of a row
-mark_at : (order ranks : List ℕ) (row : ℕ) → row < length order → get_or (keep_of order ranks) row false ≡ has_rank_of order ranks row
-mark_at order ranks row inside = get_or-map-range_with_len (has_rank_of order ranks) 0 (length order) row row false inside (zero-add row)
+row_mark : (order ranks : List ℕ) (row : ℕ) → row < length order → get_or (keep_of order ranks) row false ≡ has_rank_of order ranks row
+row_mark order ranks row inside = get_or-map-range_with_len (has_rank_of order ranks) 0 (length order) row row false inside (zero-add row)
 
 module _ (order ranks : List ℕ) (i : ℕ) (inside : i < length ranks) where
   -- a row has one of the ranks so far and one more
@@ -35,17 +35,17 @@ module _ (order ranks : List ℕ) (i : ℕ) (inside : i < length ranks) where
       (length-set (keep_of order (take i ranks)) row true ∙ length-keep_of order (take i ranks) ∙ sym (length-keep_of order (take (i + 1) ranks)))
       (λ other within.
       let other_below : other < length order = subst (λ n. other < n) (length-set (keep_of order (take i ranks)) row true ∙ length-keep_of order (take i ranks)) within in
-      let after = mark_at order (take (i + 1) ranks) other other_below ∙ more other in
+      let after = row_mark order (take (i + 1) ranks) other other_below ∙ more other in
       ⊎_elim
       (λ (same : other ≡ row).
       subst (λ r. get_or (set (keep_of order (take i ranks)) row true) r false ≡ get_or (keep_of order (take (i + 1) ranks)) r false) (sym same)
       (get_or-set_same (keep_of order (take i ranks)) row true false (subst (λ n. row < n) (sym (length-keep_of order (take i ranks))) below)
-      ∙ sym (mark_at order (take (i + 1) ranks) row below ∙ more row
+      ∙ sym (row_mark order (take (i + 1) ranks) row below ∙ more row
       ∙ ap (λ b. has_rank_of order (take i ranks) row || b) (eq-eqb (slice_index order (get_or ranks i 0)) row row_is)
       ∙ or-true (has_rank_of order (take i ranks) row))))
       (λ (differs : other ≡ row → ⊥).
       get_or-set_other (keep_of order (take i ranks)) row other true false differs
-      ∙ mark_at order (take i ranks) other other_below
+      ∙ row_mark order (take i ranks) other other_below
       ∙ sym (after ∙ ap (λ b. has_rank_of order (take i ranks) other || b)
       (ne_eqb (slice_index order (get_or ranks i 0)) other (λ same. differs (sym same ∙ row_is)))
       ∙ or-false (has_rank_of order (take i ranks) other)))
