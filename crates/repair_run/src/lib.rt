@@ -4,6 +4,7 @@
 
 mod choosing;
 mod laws;
+mod loading;
 mod run;
 mod words;
 

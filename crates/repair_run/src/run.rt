@@ -7,11 +7,12 @@ ghost use Rattle.repair_run.specs.Run.{run_over, IfTold, HasGot, IsDone, IsRun, 
 ghost use Rattle.repair_run.specs.Inside.Stops.{IsStop, IsQuiet, IsWriteStop};
 
 use crate::choosing::repaired;
+use crate::loading::loaded;
 use crate::words::{FileNames, file_names_of};
-use case_load::{load, texts_have_one_case_or_first_fault};
+use case_load::texts_have_one_case_or_first_fault;
+use el_logic::more_axioms_stay_incoherent;
 use io_edge::{Folder, PutAnswer, Sink, Target, WriteAnswer};
-use ofn_axiom::Mode;
-use status_lines::{Status, put_refusal, status_of};
+use status_lines::{Status, put_refusal};
 use std::alloc::Global;
 use text_names::{Limits, Text};
 
@@ -73,10 +74,9 @@ fn run<F: Folder, S: Sink>(
         IfErr result (FilesStand run (named names.now) limits.now) }
     ensures quiet { IfErr result (IsQuiet (S.seen out.old) (S.seen out.new)) }
 {
-    let (left, right, map) = (names.left, names.right, names.map);
-    let loaded = match load(alloc, folder, left, right, map, Mode::Strict, limits) {
+    let loaded = match loaded(alloc, names, limits, folder) {
         Ok(loaded) => loaded,
-        Err(fault) => return Err(status_of(fault)),
+        Err(status) => return Err(status),
     };
     let results = match repaired(alloc, &loaded) {
         Ok(results) => results,
@@ -142,6 +142,7 @@ pub fn repair<F: Folder, S: Sink>(
     ensures output { OutputStands (S.seen out.old) (S.seen out.new) result }
 {
     texts_have_one_case_or_first_fault();
+    more_axioms_stay_incoherent();
     let Some(names) = file_names_of(words) else {
         return refuse(alloc, out, Status::Words);
     };

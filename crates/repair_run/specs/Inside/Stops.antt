@@ -1,13 +1,30 @@
 -- Why a run stops short of being done, and what its steps leave.
 use Rattle.std.specs.Prelude.{◌≡◌, ◌⊎◌, ℕ, List, Some, IfSome, ⊤}
 use Rattle.text_names.specs.declared.limits.Limits.{Limits}
-use Rattle.io_edge.specs.Outside.{SinkSeen, WritesRose, PutsRose, HoldsFront, HasGotFront, with_file}
+use Rattle.io_edge.specs.Outside.{FolderSeen, SinkSeen, WritesRose, PutsRose, HoldsFront, HasGotFront, with_file}
 use Rattle.io_edge.specs.declared.outside.Target.TheVariants as Target
+use Rattle.ofn_axiom.specs.declared.types.Mode.TheVariants.{Strict}
+use Rattle.case_load.specs.Folders.{IsFirstFileFault}
 use Rattle.case_load.specs.declared.fault.LoadFault.TheVariants as load
 use Rattle.status_lines.specs.declared.status.Status.{Status}
 use Rattle.repair_run.specs.Words.{FileNames}
-use Rattle.repair_run.specs.Outcomes.{IsIncoherentCase, IsRepairable}
+use Rattle.repair_run.specs.Outcomes.{inputs_of, IsIncoherentCase, IsRepairable}
 use Rattle.repair_run.specs.Run.{Run, IfTold, IsFault, IsPutShort}
+
+-- why the files are not loaded
+abbrev pub IsLoadStop : FolderSeen → FolderSeen → FileNames → Limits → Status → Type 0
+IsLoadStop old new names limits (Status.ReadFault file) =
+    IsFirstFileFault old new (inputs_of names) Strict limits (load.ReadFault file)
+IsLoadStop old new names limits (Status.Syntax side place kind) =
+    IsFirstFileFault old new (inputs_of names) Strict limits (load.Syntax side place kind)
+IsLoadStop old new names limits (Status.Profile side place head) =
+    IsFirstFileFault old new (inputs_of names) Strict limits (load.Profile side place head)
+IsLoadStop old new names limits (Status.Table fault) =
+    IsFirstFileFault old new (inputs_of names) Strict limits (load.Table fault)
+IsLoadStop old new names limits (Status.Limit kind) =
+    IsFirstFileFault old new (inputs_of names) Strict limits (load.Limit kind)
+IsLoadStop old new names limits Status.OutOfMemory = ⊤
+IsLoadStop old new names limits _ = ⊥
 
 -- why a run stops
 abbrev pub IsStop : Run → FileNames → Limits → Status → Type 0

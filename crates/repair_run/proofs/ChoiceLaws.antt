@@ -1,0 +1,90 @@
+-- What is chosen and what is written of it, from the steps to the case.
+use Rattle.std.proofs.Common.{◌≡◌, ◌≤◌, ◌+◌, ℕ, Bool, List, [], length, map, refl, sym, ◌∙◌, ap, subst, arith}
+use Rattle.std.specs.Prelude.{Some}
+use Rattle.std.specs.Arc.{arc_value}
+use Rattle.std.specs.List.{range_with_len}
+use Rattle.std.proofs.lemmas.List.{length-map}
+use Rattle.std.proofs.lemmas.List.FromFn.{length-range_with_len}
+use Rattle.el_logic.specs.declared.types.Part.{Part}
+use Rattle.conflict_logic.specs.Repair.{IsRepair}
+use Rattle.rank_order.specs.Order.{IsRanking}
+use Rattle.case_file.specs.Cases.{CaseView}
+use Rattle.case_file.specs.Incoherence.{IsIncoherentFor, name_of}
+use Rattle.saturate.specs.Decisions.{IsFirstEmptyFor, IsFirstIncoherentPart}
+use Rattle.predicate_axioms.specs.RowAxioms.{row_axioms}
+use Rattle.case_load.specs.Loads.{IsCaseOf, rows_in}
+use Rattle.case_load.specs.declared.texts.Loaded.{Loaded}
+use Rattle.case_load.specs.declared.documents.Documents.{Documents}
+use Rattle.sssom_rows.specs.declared.table.Table.{Table}
+use Rattle.text_names.specs.declared.limits.Limits.{Limits}
+use Rattle.diagnosis.specs.declared.rows.KeptRows.{KeptRows}
+use Rattle.diagnosis.specs.Rows.{has_rank_of, keep_of}
+use Rattle.status_lines.specs.Lines.{summary_text}
+use Rattle.repaired_table.specs.Repaired.{repaired_text}
+use Rattle.repair_run.specs.Outcomes.{case_in, iri_of_class, keep_in, kept_count, omitted_count, text_of, line_of, AreIncoherentWith}
+use Rattle.repair_run.specs.Inside.Choices.{IsPlain, IsKept, IsChoice, IsFound}
+use Rattle.repair_run.proofs.FamilyLaws.{same_repair}
+use Rattle.repair_run.proofs.StartLaws.{ExcusingNone, coherent_part, first_part}
+
+-- the case of what is loaded is plain
+pub loaded_is_plain : ((confidences rows : List ℕ) → IsRanking confidences rows → length rows ≡ length confidences)
+    → (limits : Limits) (documents : Documents) (table : Table) (loaded : Loaded) → IsCaseOf limits documents table loaded → IsPlain loaded
+loaded_is_plain count limits documents table loaded made = record {
+  excused = ap (λ (c : CaseView). c.excused) made.case;
+  classes = ap (λ (c : CaseView). c.classes) made.case ∙ ap (λ (n : List (List ℕ)). length n) (sym (ap (λ n. n.classes.names) made.names));
+  rows = ap (λ (c : CaseView). length c.order) made.case ∙ count _ made.order made.ranking ∙ length-map table.rows (λ row. row.confidence)
+      ∙ ap (λ (t : Table). length t.rows) (sym made.same_table);
+}
+
+-- how many rows it is told of whether they are kept
+pub keep_length : (order kept : List ℕ) → length (keep_of order kept) ≡ length order
+keep_length order kept = length-map (range_with_len 0 (length order)) (has_rank_of order kept) ∙ length-range_with_len 0 (length order)
+
+module _ (law : ExcusingNone) (loaded : Loaded) (plain : IsPlain loaded) where
+  -- what is found of the case is found of its classes
+  pub found : (part : Part) (node : ℕ) (iri : List ℕ) → IsFirstIncoherentPart (case_in loaded) part → IsFirstEmptyFor (case_in loaded) part [] node
+      → iri_of_class loaded.names.classes.names (name_of node) ≡ Some iri → IsFound loaded part iri
+  found part node iri p f named = record {
+    class = name_of node;
+    first = first_part (case_in loaded) plain.excused law part node p f;
+    named = named;
+  }
+
+  -- what the diagnosis keeps
+  pub kept : (ranks : List ℕ) → ((part : Part) → ¬ (IsIncoherentFor (case_in loaded) part []))
+      → IsRepair (IsIncoherentFor (case_in loaded) Part.Both) (length (case_in loaded).order) ranks → IsKept loaded ranks
+  kept ranks coherent repair = record {
+    coherent = coherent_part (case_in loaded) plain.excused law Part.Both (coherent Part.Both);
+    repair = same_repair (IsIncoherentFor (case_in loaded) Part.Both) (AreIncoherentWith (case_in loaded))
+        (λ some. (law (case_in loaded) Part.Both some plain.excused).0) (λ some. (law (case_in loaded) Part.Both some plain.excused).1)
+        (length (case_in loaded).order) ranks repair;
+  }
+
+-- the rows of a book of this case
+module _ (law : ExcusingNone) (loaded : Loaded) (plain : IsPlain loaded) (base : CaseView) (ranks : List ℕ) (case : CaseView) (rows : KeptRows) where
+  pub choice : base ≡ case_in loaded → case ≡ base → ((part : Part) → ¬ (IsIncoherentFor (case_in loaded) part []))
+      → IsRepair (IsIncoherentFor base Part.Both) (length base.order) ranks
+      → rows.keep.items ≡ keep_of case.order ranks → rows.kept ≡ kept_count rows.keep.items → rows.kept + rows.removed ≡ length case.order → IsChoice loaded rows
+  choice base_is case_is coherent repair keep counted all =
+      let same : case ≡ case_in loaded = case_is ∙ base_is in
+      let order : length case.order ≡ length loaded.table.rows = ap (λ (c : CaseView). length c.order) same ∙ plain.rows in
+      record {
+        kept = ranks;
+        is_kept = kept law loaded plain ranks coherent (subst (λ (c : CaseView). IsRepair (IsIncoherentFor c Part.Both) (length c.order) ranks) base_is repair);
+        keep = keep ∙ ap (λ (c : CaseView). keep_of c.order ranks) same;
+        counted = counted;
+        within = omega arith;
+        each = ap length keep ∙ keep_length case.order ranks ∙ order;
+      }
+
+-- what is written of a choice
+module _ (loaded : Loaded) (rows : KeptRows) (choice : IsChoice loaded rows) where
+  pub written_text : (text : List ℕ) (keep : List Bool) → keep ≡ rows.keep.items → text ≡ repaired_text loaded.table keep → text ≡ text_of loaded choice.kept
+  written_text text keep same is = is ∙ ap (repaired_text loaded.table) (same ∙ choice.keep)
+
+  pub written_line : (line : List ℕ) (count omitted : ℕ) → count ≡ length loaded.table.rows → omitted ≡ omitted_count loaded
+      → line ≡ summary_text count rows.kept loaded.inert omitted → line ≡ line_of loaded choice.kept
+  written_line line count omitted counted left is =
+      is ∙ ap (λ (n : ℕ). summary_text n rows.kept loaded.inert omitted) counted
+      ∙ ap (λ (n : ℕ). summary_text (length loaded.table.rows) n loaded.inert omitted) (choice.counted ∙ ap kept_count choice.keep)
+      ∙ ap (λ (n : ℕ). summary_text (length loaded.table.rows) (kept_count (keep_in loaded choice.kept)) loaded.inert n) left

@@ -1,0 +1,10 @@
+pub mod FamilyLaws
+pub mod KeepLaws
+pub mod FaultLaws
+pub mod FoundLaws
+pub mod StartLaws
+pub mod ChoiceLaws
+pub mod RunLaws
+pub mod AnswerLaws
+pub mod OutcomeLaws
+pub mod LineLaws
