@@ -15,6 +15,8 @@ use Rattle.predicate_axioms.specs.RowAxioms.{row_axioms}
 use Rattle.case_load.specs.Loads.{IsCaseOf, rows_in}
 use Rattle.case_load.specs.declared.texts.Loaded.{Loaded}
 use Rattle.case_load.specs.declared.documents.Documents.{Documents}
+use Rattle.ofn_axiom.specs.declared.types.Names.{Names}
+use Rattle.sssom_rows.specs.declared.table.Row.{Row}
 use Rattle.sssom_rows.specs.declared.table.Table.{Table}
 use Rattle.text_names.specs.declared.limits.Limits.{Limits}
 use Rattle.diagnosis.specs.declared.rows.KeptRows.{KeptRows}
@@ -31,8 +33,8 @@ pub loaded_is_plain : ((confidences rows : List ℕ) → IsRanking confidences r
     → (limits : Limits) (documents : Documents) (table : Table) (loaded : Loaded) → IsCaseOf limits documents table loaded → IsPlain loaded
 loaded_is_plain count limits documents table loaded made = record {
   excused = ap (λ (c : CaseView). c.excused) made.case;
-  classes = ap (λ (c : CaseView). c.classes) made.case ∙ ap (λ (n : List (List ℕ)). length n) (sym (ap (λ n. n.classes.names) made.names));
-  rows = ap (λ (c : CaseView). length c.order) made.case ∙ count _ made.order made.ranking ∙ length-map table.rows (λ row. row.confidence)
+  classes = ap (λ (c : CaseView). c.classes) made.case ∙ ap (λ (n : List (List ℕ)). length n) (sym (ap (λ (n : Names). n.classes.names) made.names));
+  rows = ap (λ (c : CaseView). length c.order) made.case ∙ count _ made.order made.ranking ∙ length-map table.rows (λ (row : Row). row.confidence)
       ∙ ap (λ (t : Table). length t.rows) (sym made.same_table);
 }
 
@@ -65,16 +67,16 @@ module _ (law : ExcusingNone) (loaded : Loaded) (plain : IsPlain loaded) (base :
   pub choice : base ≡ case_in loaded → case ≡ base → ((part : Part) → ¬ (IsIncoherentFor (case_in loaded) part []))
       → IsRepair (IsIncoherentFor base Part.Both) (length base.order) ranks
       → rows.keep.items ≡ keep_of case.order ranks → rows.kept ≡ kept_count rows.keep.items → rows.kept + rows.removed ≡ length case.order → IsChoice loaded rows
-  choice base_is case_is coherent repair keep counted all =
+  choice base_is case_is coherent repair marks count_is all =
       let same : case ≡ case_in loaded = case_is ∙ base_is in
       let order : length case.order ≡ length loaded.table.rows = ap (λ (c : CaseView). length c.order) same ∙ plain.rows in
       record {
         kept = ranks;
         is_kept = kept law loaded plain ranks coherent (subst (λ (c : CaseView). IsRepair (IsIncoherentFor c Part.Both) (length c.order) ranks) base_is repair);
-        keep = keep ∙ ap (λ (c : CaseView). keep_of c.order ranks) same;
-        counted = counted;
+        keep = marks ∙ ap (λ (c : CaseView). keep_of c.order ranks) same;
+        counted = count_is;
         within = omega arith;
-        each = ap length keep ∙ keep_length case.order ranks ∙ order;
+        each = ap length marks ∙ keep_length case.order ranks ∙ order;
       }
 
 -- what is written of a choice

@@ -1,6 +1,6 @@
 -- Which rows are kept is determined by which ranks are.
 use Rattle.std.proofs.Common.{◌≡◌, ℕ, Bool, true, false, List, [], ◌∷◌, map, refl, sym, ◌∙◌, ap, Contains, true≢false}
-use Rattle.std.specs.Prelude.{◌==◌, length, slice_index}
+use Rattle.std.specs.Prelude.{◌==◌, ◌||◌, length, slice_index}
 use Rattle.std.specs.List.{list_any, range_with_len}
 use Rattle.std.proofs.lemmas.List.Folds.{list_any_at}
 use Rattle.std.proofs.lemmas.List.Elements.{Contains-append_left, Contains-append_right, Contains-push}
@@ -15,12 +15,12 @@ any_held test ranks rank held passes = list_any_at test ranks held.0 rank held.1
 any_stays : (test : ℕ → Bool) (ranks others : List ℕ) → ((rank : ℕ) → Contains ranks rank → Contains others rank)
     → list_any test ranks ≡ true → list_any test others ≡ true
 any_stays test [] others into h = absurd (true≢false (sym h))
-any_stays test (rank ∷ ranks) others into h = by (test rank) refl
+any_stays test (rank ∷ ranks) others into h =
+    by (test rank) refl (any_stays test ranks others (λ r held. into r (Contains-append_right (rank ∷ []) ranks r held)))
   where
-    by : (passes : Bool) → test rank ≡ passes → list_any test others ≡ true
-    by true e = any_held test others rank (into rank (Contains-append_left (rank ∷ []) ranks rank (Contains-push [] rank))) e
-    by false e = any_stays test ranks others (λ r held. into r (Contains-append_right (rank ∷ []) ranks r held))
-        (grind (e, h))
+    by : (passes : Bool) → test rank ≡ passes → (list_any test ranks ≡ true → list_any test others ≡ true) → list_any test others ≡ true
+    by true e rest = any_held test others rank (into rank (Contains-append_left (rank ∷ []) ranks rank (Contains-push [] rank))) e
+    by false e rest = rest (sym (ap (λ (b : Bool). b || list_any test ranks) e) ∙ h)
 
 -- two truth values, each true if the other is
 same_truth : (one other : Bool) → (one ≡ true → other ≡ true) → (other ≡ true → one ≡ true) → one ≡ other

@@ -1,5 +1,5 @@
 -- What is found of a case, over its nodes and over its class names.
-use Rattle.std.proofs.Common.{◌≡◌, ◌⊎◌, ◌↔◌, ◌<◌, ◌≤◌, ◌-◌, ◌+◌, ℕ, zero, suc, List, [], ◌∷◌, ◌++◌, length, map, inl, inr, refl, sym, ◌∙◌, ap, subst, Contains, arith}
+use Rattle.std.proofs.Common.{◌≡◌, ◌⊎◌, ◌↔◌, ◌<◌, ◌≤◌, ◌-◌, ◌+◌, ℕ, zero, suc, List, [], ◌∷◌, ◌++◌, length, map, get_or, inl, inr, refl, sym, ◌∙◌, ap, subst, Contains, arith}
 use Rattle.std.specs.Prelude.{Option, Some, slice_get}
 use Rattle.std.specs.Option.{option_map}
 use Rattle.std.specs.List.{range_with_len}
@@ -26,7 +26,8 @@ class_at : (classes class : ℕ) → class < classes → slice_get (must_have cl
 class_at classes class below =
     let range = range_with_len 0 classes in
     let within : class < length range = omega (arith, below, length-range_with_len 0 classes) in
-    slice_get-map Name range class ∙ ap (option_map Name) (slice_get-get_or range class 0 within ∙ ap {B = Option ℕ} (λ (n : ℕ). Some n) (get_or-range_with_len 0 classes class 0 below))
+    let is : get_or range class 0 ≡ class = omega (arith, get_or-range_with_len 0 classes class 0 below) in
+    slice_get-map Name range class ∙ ap (option_map Name) (slice_get-get_or range class 0 within ∙ ap {B = Option ℕ} (λ (n : ℕ). Some n) is)
 
 module _ (case : CaseView) (excused : case.excused ≡ []) where
   abbrev part_axioms : Part → List Axiom

@@ -1,8 +1,7 @@
 //! The rows to keep, and what is written of them.
 
-ghost use Rattle.std.specs.Prelude.{◌≡◌, ◌⊎◌, ◌×◌, ◌<◌, ◌+◌, ℕ, Some, length, IfOk, IfErr};
+ghost use Rattle.std.specs.Prelude.{◌≡◌, ◌≢◌, ◌<◌, ◌+◌, Some, length, IfOk, IfErr};
 ghost use Rattle.byte_words.specs.Faults.{OrOutOfMemory};
-ghost use Rattle.case_file.specs.Cases.{IsMustHave};
 ghost use Rattle.case_file.specs.Incoherence.{name_of};
 ghost use Rattle.saturate.specs.Decisions.{IsStartFault, start_ran_out};
 ghost use Rattle.repair_run.specs.Outcomes.{case_in, iri_of_class, omitted_count};
@@ -28,8 +27,8 @@ pub struct Results {
 
 // The IRI of a class that must have a member, by its node.
 fn class_iri(alloc: Global, names: &Names, node: u32) -> Result<Text, AllocError>
-    requires { (node ≡ 0)
-        ⊎ ((class : ℕ) × (class < length names.now.classes.names) × (node ≡ class + 2)) }
+    requires named { node < length names.now.classes.names + 2 }
+    requires other { node ≢ 1 }
     ensures { IfOk result (λ iri. iri_of_class names.now.classes.names (name_of node) ≡ Some iri) }
 {
     if node == 0 {

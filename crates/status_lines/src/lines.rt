@@ -82,8 +82,9 @@ pub fn profile_line(
 ) -> Result<Vec<u8>, AllocError>
     ensures { IfOk result (λ line. line.items ≡ refusal_line (Status.Profile side place head)) }
 {
+    let place = place_text(alloc, side, place)?;
     let mut line = Vec::from_slice(alloc, b"alod: ")?;
-    line.extend_from_slice(place_text(alloc, side, place)?.as_bytes())?;
+    line.extend_from_slice(place.as_bytes())?;
     line.extend_from_slice(b": not in the profile: ")?;
     line.extend_from_slice(head.name())?;
     line.extend_from_slice(b"\n")?;
