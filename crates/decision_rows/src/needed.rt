@@ -13,14 +13,26 @@ const NEEDED: [(&str, &str, u32); 14] = [
     ("Itself", "SubClassOf(:A owl:Nothing)", 2),
     ("Top", "SubClassOf(owl:Thing :A) DisjointClasses(:A :B)", 3),
     ("Incl", "SubClassOf(:A :B) SubClassOf(:B owl:Nothing)", 2),
-    ("Left", "SubClassOf(:A ObjectIntersectionOf(owl:Nothing :B))", 2),
-    ("Right", "SubClassOf(:A ObjectIntersectionOf(:B owl:Nothing))", 2),
+    (
+        "Left",
+        "SubClassOf(:A ObjectIntersectionOf(owl:Nothing :B))",
+        2,
+    ),
+    (
+        "Right",
+        "SubClassOf(:A ObjectIntersectionOf(:B owl:Nothing))",
+        2,
+    ),
     (
         "Both",
         "SubClassOf(ObjectIntersectionOf(:A :B) owl:Nothing) SubClassOf(:C :B) SubClassOf(:C :A)",
         4,
     ),
-    ("Out", "SubClassOf(:A ObjectSomeValuesFrom(:r owl:Nothing))", 2),
+    (
+        "Out",
+        "SubClassOf(:A ObjectSomeValuesFrom(:r owl:Nothing))",
+        2,
+    ),
     (
         "Into",
         "SubClassOf(ObjectSomeValuesFrom(:r :A) owl:Nothing) SubClassOf(:B :A) \

@@ -48,14 +48,18 @@ pub(crate) fn tested(alloc: Global, table: &ClosedTable, rank: u32) -> Result<Ve
 }
 
 /// The verdict on two more ranks, the lower one first.
+#[tactic(auto, using(crate::proofs::TwoRanks::two_ascend, crate::proofs::TwoRanks::two_below, crate::proofs::TwoRanks::two_after))]
 pub fn tested_both(
     alloc: Global,
     table: &ClosedTable,
     one: u32,
     other: u32,
 ) -> Result<Verdict, Fail> {
-    if one >= other || other >= table.case().ranks() {
-        return Err("no such ranks".into());
+    if one >= other {
+        return Err("ranks that don't ascend".into());
+    }
+    if other >= table.case().ranks() {
+        return Err("no such rank".into());
     }
     if !are_before(table.ranks(), one) {
         return Err("ranks that don't ascend".into());
