@@ -25,7 +25,9 @@ pub fn summary(
     ensures { IfOk result (λ line. string_bytes line ≡ summary_text rows kept inert omitted) }
 {
     let removed = rows - kept;
-    format!(in alloc; "alod: rows {rows} kept {kept} removed {removed} inert {inert} omitted {omitted}\n")
+    format!(in alloc;
+        "alod: rows {rows} kept {kept} removed {removed} inert {inert} omitted {omitted}\n"
+    )
 }
 
 fn place_text(alloc: Global, side: Side, place: Place) -> Result<String, AllocError>
@@ -42,7 +44,8 @@ pub fn syntax_line(
     place: Place,
     kind: DocKind,
 ) -> Result<String, AllocError>
-    ensures { IfOk result (λ line. string_bytes line ≡ refusal_line (Status.Syntax side place kind)) }
+    ensures { IfOk result (λ line.
+        string_bytes line ≡ refusal_line (Status.Syntax side place kind)) }
 {
     let place = place_text(alloc, side, place)?;
     let kind = kind_text(kind);
