@@ -1,4 +1,4 @@
-//! A model of two ontologies and of the two rows that are kept, and the first fault of what is none.
+//! A model of two ontologies and of the rows that are kept, and the first fault of what is none.
 
 use crate::rows::{BELOW, DISJOINT, ROWS};
 use crate::setting::{HEADER, are_ranks, made};
