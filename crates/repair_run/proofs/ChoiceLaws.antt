@@ -11,8 +11,7 @@ use Rattle.rank_order.specs.Order.{IsRanking}
 use Rattle.case_file.specs.Cases.{CaseView}
 use Rattle.case_file.specs.Incoherence.{IsIncoherentFor, name_of}
 use Rattle.saturate.specs.Decisions.{IsFirstEmptyFor, IsFirstIncoherentPart}
-use Rattle.predicate_axioms.specs.RowAxioms.{row_axioms}
-use Rattle.case_load.specs.Loads.{IsCaseOf, rows_in}
+use Rattle.case_load.specs.Loads.{IsCaseOf}
 use Rattle.case_load.specs.declared.texts.Loaded.{Loaded}
 use Rattle.case_load.specs.declared.documents.Documents.{Documents}
 use Rattle.ofn_axiom.specs.declared.types.Names.{Names}

@@ -137,14 +137,18 @@ module _ (run : Run) (names : FileNames) (limits : Limits) (loaded : Loaded) (re
     put_short : IfSome run.output.got (λ got. HasGotFront got run.output_after.got line) → IsPutShort run names limits
     put_short put = (outcome, subst (λ (t : List ℕ). IfSome run.output.got (λ got. HasGotFront got run.output_after.got t)) says put)
 
+    holds : IfTold run (λ files. run.folder_after.files ≡ Some (with_file files names.out text))
+        → IfTold run (λ files. run.folder_after.files ≡ Some (with_file files names.out (text_of loaded kept)))
+    holds written = subst (λ (t : List ℕ). IfTold run (λ files. run.folder_after.files ≡ Some (with_file files names.out t))) writes written
+
     whole : IfTold run (λ files. run.folder_after.files ≡ Some (with_file files names.out text)) → IsWritten run names limits
-    whole written = (outcome, subst (λ (t : List ℕ). IfTold run (λ files. run.folder_after.files ≡ Some (with_file files names.out t))) writes written)
+    whole written = (outcome, holds written)
 
     torn : IfTold run (λ files. (run.folder_after.files ≡ Some files) ⊎ HoldsFront files run.folder_after.files names.out text) → IsTorn run names limits
     torn written = (outcome, subst (λ (t : List ℕ). IfTold run (λ files. (run.folder_after.files ≡ Some files) ⊎ HoldsFront files run.folder_after.files names.out t)) writes written)
 
     pub done : IfTold run (λ files. run.folder_after.files ≡ Some (with_file files names.out text)) → HasGot run line → IsDone run names limits
-    done written put = (outcome, (whole written).1, subst (HasGot run) says put)
+    done written put = (outcome, holds written, subst (HasGot run) says put)
 
     abbrev Stops : Status → Type 0
     Stops s = IsWriteStop run names.out text line s
