@@ -69,13 +69,15 @@ yes_stays marks at seen rank decided = ⊎_elim
     (cases_Bool (ltb seen (number_kept marks))))
     (cases_Bool (is_decided (mark_at marks at)))
 
-take_stays : (marks : List Mark) (at : ℕ) → (on_take marks at).marks ≡ marks
+-- asking leaves the marks
+pub take_stays : (marks : List Mark) (at : ℕ) → (on_take marks at).marks ≡ marks
 take_stays marks at = ⊎_elim
     (λ (over : is_decided (mark_at marks at) ≡ true). rw over refl)
     (λ (undecided : is_decided (mark_at marks at) ≡ false). rw undecided refl)
     (cases_Bool (is_decided (mark_at marks at)))
 
-take_front_stays : (marks : List Mark) → (on_take_front marks).marks ≡ marks
+-- so does asking for the front
+pub take_front_stays : (marks : List Mark) → (on_take_front marks).marks ≡ marks
 take_front_stays marks = ⊎_elim
     (λ (done : eqb (front_of marks) (length marks) ≡ true). rw done refl)
     (λ (more : eqb (front_of marks) (length marks) ≡ false). rw more refl)

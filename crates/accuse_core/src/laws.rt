@@ -9,7 +9,7 @@ ghost use Rattle.accuse_core.specs.declared.event.Event.{Event};
 ghost use Rattle.accuse_core.specs.declared.journal.Entry.{Entry};
 ghost use Rattle.accuse_core.specs.declared.mark.Mark.{Mark};
 ghost use Rattle.accuse_core.specs.Marks.{is_decided, is_yes_over, kept_unless_removed, with_kept, with_removed, with_note, with_block, block_of, settled, opening, mark_at, kept_of, number_kept, front_of};
-ghost use Rattle.accuse_core.specs.Events.{outcome, IsAllowed};
+ghost use Rattle.accuse_core.specs.Events.{outcome, on_take, on_take_front, IsAllowed};
 ghost use Rattle.accuse_core.specs.Journal.{after, AreAllowed, replayed, IsJournal};
 ghost use Rattle.accuse_core.specs.Sound.{AreKeptBeforeFront, AreSound};
 
@@ -111,6 +111,12 @@ pub fn decided_ranks_keep_their_marks()
         → mark_at (outcome marks event).marks rank ≡ mark_at marks rank }
 {}
 
+/// Asking for a rank, or for the front, leaves the marks.
+pub fn asking_leaves_the_marks()
+    ensures rank { (marks : List Mark) (rank : ℕ) → (on_take marks rank).marks ≡ marks }
+    ensures front { (marks : List Mark) → (on_take_front marks).marks ≡ marks }
+{}
+
 /// No event adds or takes away a rank.
 pub fn events_leave_the_ranks()
     ensures step { (marks : List Mark) (event : Event)
@@ -132,6 +138,16 @@ pub fn front_is_the_least_undecided_rank()
         → is_decided (mark_at marks rank) ≡ true }
     ensures there { (marks : List Mark) → front_of marks < length marks
         → is_decided (mark_at marks (front_of marks)) ≡ false }
+{}
+
+/// A verdict on the rank at the front decides it: a no, or a yes over all kept ranks.
+pub fn verdicts_at_the_front_move_it()
+    ensures no { (marks : List Mark) (worker seen : ℕ) → front_of marks < length marks
+        → let told = Event.No worker (front_of marks) seen in
+        front_of marks < front_of (outcome marks told).marks }
+    ensures yes { (marks : List Mark) (worker : ℕ) → front_of marks < length marks
+        → let told = Event.Yes worker (front_of marks) (number_kept marks) in
+        front_of marks < front_of (outcome marks told).marks }
 {}
 
 /// A block keeps its ranks unless they are removed, and leaves all others.

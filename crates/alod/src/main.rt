@@ -52,7 +52,7 @@ fn main(rt: HostRuntime) -> ExitCode {
         Ok(words) => words,
         Err(status) => return ExitCode::from(status),
     };
-    let mut folder = RealFolder::new(&rt);
+    let mut folder = RealFolder::new(&rt, alloc);
     let mut out = StdSink::new(&rt);
     let limits = Limits::standard();
     let status = repair(alloc, words.as_slice(), &limits, &mut folder, &mut out);

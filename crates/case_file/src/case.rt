@@ -1,7 +1,7 @@
 //! A case.
 
-ghost use Rattle.std.specs.Prelude.{◌≡◌, ◌<◌, Some, length, slice_get, slice_index, slice_index_or, []};
-ghost use Rattle.case_file.specs.Cases.{row_at, IsCase, IsExcuse};
+ghost use Rattle.std.specs.Prelude.{◌≡◌, ◌<◌, ◌↔◌, IsTrue, Contains, Some, length, slice_get, slice_index, slice_index_or, []};
+ghost use Rattle.case_file.specs.Cases.{row_at, IsCase, IsExcuse, IsMustHave};
 
 use crate::{AxiomLists, NodeAxiomLists};
 use concept_store::{NodeAxiom, Store};
@@ -164,5 +164,22 @@ impl Case {
         ensures { result.now ≡ self.now.excused }
     {
         self.excused.as_slice()
+    }
+
+    // Whether a node is excused.
+    fn is_excused(&self, node: u32) -> bool
+        ensures { IsTrue result ↔ Contains self.now.excused node }
+    {
+        self.excused().contains(&node)
+    }
+
+    /// Whether a node must have a member: `owl:Thing`, or the node of a class that is not excused.
+    pub fn is_must_have(&self, node: u32) -> bool
+        ensures { IsTrue result ↔ IsMustHave self.now node }
+    {
+        match node.checked_sub(2) {
+            Some(class) => class < self.classes() && !self.is_excused(node),
+            None => node == 0,
+        }
     }
 }

@@ -19,7 +19,6 @@ use Rattle.commit_book.specs.declared.held.Held.TheVariants.{Nothing, Note, Why}
 use Rattle.commit_book.specs.Books.{BookView, IsTableFor, entry_of}
 use Rattle.commit_book.specs.Inside.Holdings.{IsSettled, IsNearlySettled, IsKept}
 use Rattle.commit_book.specs.Inside.Laws.{Laws}
-use Rattle.commit_book.proofs.EventLaws.{take_leaves}
 use Rattle.commit_book.proofs.TellLaws.{no_late, yes_lost, HasLostNotes}
 use Rattle.commit_book.proofs.PutLaws.{no_allowed, yes_allowed, block_allowed, after_call, after_same, no_put, yes_put, note_put, block_put}
 
@@ -73,7 +72,7 @@ module _ {inside book : BookView} {held : List Held} {table : TableView} (call :
   take_keeps worker rank later entries inside_ranks marks_are entries_are =
       let fits = subst (λ (b : BookView). rank < length b.marks) (sym call.same) inside_ranks in
       after_same inside.case (laws_of call) inside.marks later inside.entries entries held table (E.Take worker rank) call.kept
-      (record { fits = fits; verdict = tt }) (take_leaves inside.marks rank) marks_are entries_are
+      (record { fits = fits; verdict = tt }) ((laws_of call).kept.asking inside.marks rank) marks_are entries_are
 
   -- a no that is marked, and one that comes too late
   pub no_puts : (rank seen : ℕ) (steps : List Step) (later : List Mark) → IsFittingVerdict book.marks rank seen

@@ -1,6 +1,5 @@
 -- What each event leaves, before the front is taken anew, and how the journal grows by it.
-use Rattle.std.proofs.Common.{◌≡◌, ℕ, ◌<◌, true, false, ⊎_elim, List, [], ◌∷◌, ◌++◌, length, set, take, Contains, eqb, refl, sym, subst, ap, ◌∙◌, arith}
-use Rattle.std.proofs.lemmas.Bool.{cases_Bool}
+use Rattle.std.proofs.Common.{◌≡◌, ℕ, ◌<◌, false, List, [], ◌∷◌, ◌++◌, length, set, take, Contains, refl, sym, subst, ap, ◌∙◌, arith}
 use Rattle.std.proofs.lemmas.List.{append-nil}
 use Rattle.el_logic.specs.declared.types.Part.{Part}
 use Rattle.case_file.specs.Cases.{CaseView}
@@ -13,7 +12,7 @@ use Rattle.accuse_core.specs.declared.mark.Mark.TheVariants.{Yes, Kept, Removed}
 use Rattle.accuse_core.specs.declared.event.Event.{Event}
 use Rattle.accuse_core.specs.declared.journal.Entry.{Entry}
 use Rattle.accuse_core.specs.Marks.{is_decided, with_kept, with_removed, with_note, mark_at, kept_of, front_of}
-use Rattle.accuse_core.specs.Events.{outcome, on_take, on_take_front, IsAllowed}
+use Rattle.accuse_core.specs.Events.{outcome, IsAllowed}
 use Rattle.accuse_core.specs.Journal.{replayed}
 use Rattle.accuse_core.specs.Sound.{AreKeptBeforeFront}
 use Rattle.commit_book.specs.declared.held.Held.{Held}
@@ -23,19 +22,6 @@ use Rattle.commit_book.specs.Inside.Holdings.{IsNoteFor, AreBacked, IsSettled, I
 use Rattle.commit_book.specs.Inside.Laws.{Laws}
 use Rattle.commit_book.proofs.FrontLaws.{open_from_front}
 use Rattle.commit_book.proofs.BackLaws.{backed_more, backed_set, why_from_seen}
-
--- asking leaves the marks
-pub take_leaves : (marks : List Mark) (rank : ℕ) → (on_take marks rank).marks ≡ marks
-take_leaves marks rank = ⊎_elim
-    (λ (over : is_decided (mark_at marks rank) ≡ true). rw over refl)
-    (λ (undecided : is_decided (mark_at marks rank) ≡ false). rw undecided refl)
-    (cases_Bool (is_decided (mark_at marks rank)))
-
-pub take_front_leaves : (marks : List Mark) → (on_take_front marks).marks ≡ marks
-take_front_leaves marks = ⊎_elim
-    (λ (done : eqb (front_of marks) (length marks) ≡ true). rw done refl)
-    (λ (more : eqb (front_of marks) (length marks) ≡ false). rw more refl)
-    (cases_Bool (eqb (front_of marks) (length marks)))
 
 -- ranks that are kept are before one that isn't decided
 kept_below : (marks : List Mark) (rank : ℕ) → AreKeptBeforeFront marks → is_decided (mark_at marks rank) ≡ false

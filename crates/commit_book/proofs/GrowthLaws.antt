@@ -13,7 +13,6 @@ use Rattle.accuse_core.specs.Journal.{after, AreAllowed, events_of}
 use Rattle.accuse_core.specs.Sound.{AreKeptBeforeFront}
 use Rattle.commit_book.specs.Inside.Laws.{KeptLaws, BlockLaws}
 use Rattle.commit_book.proofs.FrontLaws.{removed_ahead, noted_ahead, front_ahead, settled_ahead, block_ahead}
-use Rattle.commit_book.proofs.EventLaws.{take_leaves, take_front_leaves}
 use Rattle.commit_book.proofs.TellLaws.{IsKeptYes, IsNotedYes, IsLostYes, yes_cases}
 
 -- the marks after a change keep more, and their kept ranks are before the front
@@ -80,8 +79,8 @@ module _ (kept : KeptLaws) (block : BlockLaws) where
 
   -- each event
   event_grows : (marks : List Mark) (event : Event) → IsFitting marks event → AreKeptBeforeFront marks → IsGrown marks (outcome marks event).marks
-  event_grows marks (E.Take worker rank) fits ahead = grown_same marks (outcome marks (E.Take worker rank)).marks (take_leaves marks rank) ahead
-  event_grows marks (E.TakeFront worker) fits ahead = grown_same marks (outcome marks (E.TakeFront worker)).marks (take_front_leaves marks) ahead
+  event_grows marks (E.Take worker rank) fits ahead = grown_same marks (outcome marks (E.Take worker rank)).marks (kept.asking marks rank) ahead
+  event_grows marks (E.TakeFront worker) fits ahead = grown_same marks (outcome marks (E.TakeFront worker)).marks (kept.asking_front marks) ahead
   event_grows marks (E.No worker rank seen) fits ahead = no_grows marks rank fits.0 ahead
   event_grows marks (E.Yes worker rank seen) fits ahead = yes_grows marks rank seen fits.0 ahead
   event_grows marks (E.Block worker rank count seen) fits ahead =

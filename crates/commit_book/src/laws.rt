@@ -14,9 +14,9 @@ ghost use Rattle.commit_book.specs.Inside.Laws.{KeptLaws, BlockLaws, JournalLaws
 
 use crate::book::Book;
 use accuse_core::{
-    allowed_events_leave_sound_marks, blocks_keep_what_is_not_removed, events_leave_the_ranks,
-    journals_grow_by_an_event, kept_ranks_are_the_repair, kept_ranks_have_the_mark,
-    kept_ranks_only_grow,
+    allowed_events_leave_sound_marks, asking_leaves_the_marks, blocks_keep_what_is_not_removed,
+    events_leave_the_ranks, journals_grow_by_an_event, kept_ranks_are_the_repair,
+    kept_ranks_have_the_mark, kept_ranks_only_grow,
 };
 use case_file::more_rows_stay_incoherent;
 use closed_model::a_closed_table_shows_coherence;
@@ -25,6 +25,7 @@ use derivation::{good_derivations_show_incoherence, good_derivations_stay_good_f
 fn kept_laws()
     ensures { KeptLaws }
 {
+    asking_leaves_the_marks();
     kept_ranks_only_grow();
     kept_ranks_have_the_mark();
 }

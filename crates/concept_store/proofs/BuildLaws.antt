@@ -126,7 +126,7 @@ length-parts side number (axiom' ∷ axioms) =
     omega (arith, length-append (parts_of side number axiom') (parts_in side (number + 1) axioms), length-map-range_with_len (Part side number) 2 (part_count axiom'), length-parts side (number + 1) axioms)
 
 -- how many roles there are
-length-roles : (roles : ℕ) (left right : List Axiom) → length (roles_of roles left right) ≡ roles + parts_within left + parts_within right
+pub length-roles : (roles : ℕ) (left right : List Axiom) → length (roles_of roles left right) ≡ roles + parts_within left + parts_within right
 length-roles roles left right =
     let names = map Named (range_with_len 0 roles) in
     let one = parts_in Side.Left 1 left in

@@ -1,17 +1,17 @@
 //! Laws of nodes and their readings.
 
-ghost use Rattle.std.specs.Prelude.{◌≡◌, ◌↔◌, ℕ, List, All, Some, None};
+ghost use Rattle.std.specs.Prelude.{◌≡◌, ◌↔◌, ℕ, ◌+◌, List, All, Some, None, length};
 ghost use Rattle.el_logic.specs.declared.types.Axiom.{Axiom};
 ghost use Rattle.el_logic.specs.declared.types.Expr.{Expr};
 ghost use Rattle.el_logic.specs.declared.types.Interp.{Interp};
 ghost use Rattle.el_logic.specs.Meaning.{IsInterp, IsMember};
 ghost use Rattle.concept_store.specs.declared.types.Node.{Node};
 ghost use Rattle.concept_store.specs.Trees.{Tree, tree_of, IsTreeOver};
-ghost use Rattle.concept_store.specs.Nodes.{node_for};
+ghost use Rattle.concept_store.specs.Nodes.{node_for, parts_within};
 ghost use Rattle.concept_store.specs.Order.{AreInOrder};
 ghost use Rattle.concept_store.specs.Standing.{StandsFor};
 ghost use Rattle.concept_store.specs.Reading.{Reading, IsIn, IsReadingOf, MeansTheSameIn, ReadsParts};
-ghost use Rattle.concept_store.specs.Roles.{AreOver, store_of};
+ghost use Rattle.concept_store.specs.Roles.{AreOver, roles_of, store_of};
 
 /// Each interpretation has a reading over the store of two ontologies, in which each part of a
 /// chain is the composition that it stands for.
@@ -29,6 +29,12 @@ pub fn nodes_stand_in_order()
     ensures { (classes roles : ℕ) (left right : List Axiom)
         → AreOver classes roles left → AreOver classes roles right
         → AreInOrder classes roles (store_of classes roles left right).nodes }
+{}
+
+/// A store has a role for each property and for each part of a chain, and no others.
+pub fn stores_have_a_role_for_each_part()
+    ensures { (roles : ℕ) (left right : List Axiom)
+        → length (roles_of roles left right) ≡ roles + parts_within left + parts_within right }
 {}
 
 /// The axioms of two ontologies mean the same over the nodes of their store.

@@ -2,9 +2,13 @@
 #![tactic(auto)]
 
 #[cfg(test)]
+mod blocks;
+#[cfg(test)]
 mod incoherent;
 #[cfg(test)]
 mod kept;
+#[cfg(test)]
+mod needed;
 #[cfg(test)]
 mod setting;
 #[cfg(test)]

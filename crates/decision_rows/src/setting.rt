@@ -5,7 +5,7 @@ ghost use Rattle.std.specs.Prelude.{IsTrue, All, ◌<◌};
 use case_load::{LoadFault, Loaded, assemble};
 use closed_model::ClosedTable;
 use ofn_axiom::Mode;
-use saturate::{Verdict, test};
+use saturate::{Verdict, test, test_block};
 use std::alloc::Global;
 use std::test::Fail;
 use text_names::Limits;
@@ -45,6 +45,23 @@ pub fn tested(alloc: Global, table: &ClosedTable, rank: u32) -> Result<Verdict, 
         return Err("ranks that don't ascend".into());
     }
     Ok(test(alloc, table, rank)?)
+}
+
+/// The verdict on two more ranks, the lower one first.
+pub fn tested_both(
+    alloc: Global,
+    table: &ClosedTable,
+    one: u32,
+    other: u32,
+) -> Result<Verdict, Fail> {
+    if one >= other || other >= table.case().ranks() {
+        return Err("no such ranks".into());
+    }
+    if !are_before(table.ranks(), one) {
+        return Err("ranks that don't ascend".into());
+    }
+    let ranks = [one, other];
+    Ok(test_block(alloc, table, ranks.as_slice())?)
 }
 
 /// The table of the ranks that are kept, going down all ranks.

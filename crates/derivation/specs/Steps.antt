@@ -1,5 +1,5 @@
 -- Derivations: which steps are good, and what a derivation shows.
-use Rattle.std.specs.Prelude.{◌≡◌, ℕ, ◌+◌, ◌<◌, List, Some, slice_get, slice_index, length, All, Result, MatchResult}
+use Rattle.std.specs.Prelude.{◌≡◌, ℕ, ◌+◌, ◌<◌, List, Some, slice_get, slice_index, length, Result, MatchResult}
 use Rattle.el_logic.specs.declared.types.Part.{Part}
 use Rattle.fact_table.specs.declared.types.Fact.{Fact}
 use Rattle.fact_table.specs.declared.types.Fact.TheVariants.{Sub}
@@ -73,8 +73,3 @@ IsAnswer case part ranks steps answer =
 abbrev pub IsAscending : List ℕ → Type 0
 IsAscending numbers = (one other : ℕ) → one < other → other < length numbers
     → slice_index numbers one < slice_index numbers other
-
--- the ranks ascend, and are those of rows
-pub record AreRanks (case : CaseView) (ranks : List ℕ) : Type 0 where
-  pub ascending : IsAscending ranks
-  pub within : All (λ rank. rank < length case.order) ranks

@@ -1,11 +1,11 @@
 //! Checking a derivation.
 
-ghost use Rattle.std.specs.Prelude.{◌≡◌, ◌<◌, IsTrue, ◌↔◌, length, Contains};
+ghost use Rattle.std.specs.Prelude.{◌≡◌, ◌<◌, IsTrue, ◌↔◌, length};
 ghost use Rattle.fact_table.specs.declared.types.Source.{Source};
 ghost use Rattle.el_rules.specs.Rules.{premises, names_axiom};
 ghost use Rattle.el_rules.specs.Following.{NamesNoMore};
-ghost use Rattle.case_file.specs.Cases.{IsMustHave};
-ghost use Rattle.derivation.specs.Steps.{IsGoodStep, ShowsEmpty, IsAnswer, AreRanks};
+ghost use Rattle.case_file.specs.Cases.{AreRanksOf};
+ghost use Rattle.derivation.specs.Steps.{IsGoodStep, ShowsEmpty, IsAnswer};
 
 use crate::premises::{fact_before, named_axiom};
 use crate::rules::gives;
@@ -63,7 +63,7 @@ fn is_good_step(
     count: usize,
     step: &Step,
 ) -> bool
-    requires ranks { AreRanks case.now ranks.now }
+    requires ranks { AreRanksOf case.now ranks.now }
     requires within { count < length steps.now }
     ensures { IsTrue result ↔ IsGoodStep case.now part ranks.now steps.now count step.now }
 {
@@ -73,30 +73,13 @@ fn is_good_step(
     names_no_more(step) && gives(case.store(), said, one, two, step.rule, step.fact)
 }
 
-// The node is excused.
-fn is_excused(case: &Case, node: u32) -> bool
-    ensures { IsTrue result ↔ Contains case.now.excused node }
-{
-    case.excused().contains(&node)
-}
-
-// The node must have a member.
-fn is_must_have(case: &Case, node: u32) -> bool
-    ensures { IsTrue result ↔ IsMustHave case.now node }
-{
-    match node.checked_sub(2) {
-        Some(class) => class < case.classes() && !is_excused(case, node),
-        None => node == 0,
-    }
-}
-
 // The last step says that a node that must have a member is empty.
 fn shows_empty(case: &Case, steps: &[Step]) -> bool
     ensures { IsTrue result ↔ ShowsEmpty case.now steps.now }
 {
     match steps.last() {
         Some(step) => match step.fact {
-            Fact::Sub(node, 1) => is_must_have(case, node),
+            Fact::Sub(node, 1) => case.is_must_have(node),
             _ => false,
         },
         None => false,
@@ -111,7 +94,7 @@ pub fn check_derivation(
     part: Part,
     ranks: &[u32],
 ) -> Result<(), BadStep>
-    requires { AreRanks case.now ranks.now }
+    requires { AreRanksOf case.now ranks.now }
     ensures { IsAnswer case.now part ranks.now derivation.now result }
 {
     let steps = derivation.as_slice();

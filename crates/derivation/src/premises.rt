@@ -1,11 +1,12 @@
 //! What a step starts from: facts of earlier steps and an axiom.
 
 ghost use Rattle.std.specs.Prelude.{◌≡◌, ◌≢◌, ◌<◌, MatchOption, ℕ, IsTrue, ◌↔◌, Some, length, Contains};
+ghost use Rattle.std.specs.List.Sorted.{IsStrictlyIncreasing};
 ghost use Rattle.std.specs.Option.{option_copied};
 ghost use Rattle.fact_table.specs.declared.types.Fact.TheVariants.{Sub, Link};
 ghost use Rattle.el_rules.specs.Theories.{IsNumbered, IsSourceOf, IsNamedBy};
-ghost use Rattle.case_file.specs.Cases.{theory_of};
-ghost use Rattle.derivation.specs.Steps.{IsStepBefore, IsAscending, AreRanks};
+ghost use Rattle.case_file.specs.Cases.{AreRanksOf, theory_of};
+ghost use Rattle.derivation.specs.Steps.{IsStepBefore};
 ghost use Rattle.derivation.specs.Inside.Answers.{IsTheOne};
 
 use crate::Step;
@@ -69,7 +70,7 @@ fn numbered(axioms: &[NodeAxiom], number: u32) -> Option<&NodeAxiom>
 
 // The list has the rank.
 fn has_rank(ranks: &[u32], rank: u32) -> bool
-    requires { IsAscending ranks.now }
+    requires { IsStrictlyIncreasing ranks.now }
     ensures { IsTrue result ↔ Contains ranks.now rank }
 {
     ranks.binary_search(&rank).is_ok()
@@ -77,7 +78,7 @@ fn has_rank(ranks: &[u32], rank: u32) -> bool
 
 // The source is of the part or of the ranks.
 fn is_source(part: Part, ranks: &[u32], source: Source) -> bool
-    requires { IsAscending ranks.now }
+    requires { IsStrictlyIncreasing ranks.now }
     ensures { IsTrue result ↔ IsSourceOf part ranks.now source }
 {
     match source {
@@ -95,7 +96,7 @@ pub fn named_axiom<'a>(
     ranks: &[u32],
     source: Source,
 ) -> Option<&'a NodeAxiom>
-    requires { AreRanks case.now ranks.now }
+    requires { AreRanksOf case.now ranks.now }
     ensures { IsTheOne (option_copied result)
         (IsNamedBy (theory_of case.now) part ranks.now source) }
 {

@@ -11,6 +11,9 @@ ghost use Rattle.commit_book.specs.Books.{ranks_of};
 ghost use Rattle.diagnosis.specs.Journals.{AreByOneWorker};
 ghost use Rattle.diagnosis.specs.Inside.Turns.{IsFront, GoesOn, IsTurn};
 
+use accuse_core::{
+    asking_leaves_the_marks, front_is_the_least_undecided_rank, verdicts_at_the_front_move_it,
+};
 use case_file::Case;
 use closed_model::ClosedTable;
 use commit_book::{Book, FrontAnswer, Taken, books_are_sound, books_hold_a_repair};
@@ -28,6 +31,9 @@ fn take_front(alloc: Global, book: &mut Book) -> Result<Option<Taken>, AllocErro
     ensures front { IfOk result (λ found. MatchOption found
         (front_of book.old.marks ≡ ranks_of book.old.case) (IsFront book.new)) }
 {
+    asking_leaves_the_marks();
+    front_is_the_least_undecided_rank();
+    let _ = book.journal();
     book.reserve_turn(alloc)?;
     match book.take_front(WORKER) {
         FrontAnswer::Done => Ok(None),
@@ -42,6 +48,7 @@ fn tested(alloc: Global, book: &Book, taken: &Taken) -> Result<Verdict, AllocErr
         (kept_of book.now.marks ++ taken.now.rank ∷ [])) }
 {
     books_are_sound(book);
+    let _ = book.journal();
     test(alloc, &taken.snapshot, taken.rank)
 }
 
@@ -52,6 +59,8 @@ fn tell(alloc: Global, book: &mut Book, taken: &Taken, verdict: Verdict) -> Resu
         (kept_of book.old.marks ++ taken.now.rank ∷ []) verdict }
     ensures { OnOk result (IsTurn book.old book.new) }
 {
+    verdicts_at_the_front_move_it();
+    let _ = book.journal();
     book.reserve_turn(alloc)?;
     match verdict {
         Verdict::No(why) => {
@@ -73,7 +82,8 @@ fn decide_front(alloc: Global, book: &mut Book) -> Result<(), AllocError>
         return Ok(());
     };
     let verdict = tested(alloc, book, &taken)?;
-    tell(alloc, book, &taken, verdict)
+    tell(alloc, book, &taken, verdict)?;
+    Ok(())
 }
 
 /// Decides every rank of a case, as worker 0 alone: takes the rank at the front, tests it over the
@@ -92,6 +102,8 @@ pub fn diagnose(alloc: Global, case: Arc<Case>, base: ClosedTable) -> Result<Boo
     for _ in 0..ranks {
         decide_front(alloc, &mut book)?;
     }
+    front_is_the_least_undecided_rank();
     books_hold_a_repair(&book);
+    let _ = book.journal();
     Ok(book)
 }

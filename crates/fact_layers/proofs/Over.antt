@@ -11,14 +11,10 @@ use Rattle.fact_table.specs.Places.{IsFoundAt, IsLastBelow, IsClear}
 use Rattle.fact_layers.proofs.Parts.{IsPart, at_left, at_right, last_part, last_in_front, last_in_part, clear_part, clear_past, shifted_some}
 use Rattle.fact_layers.proofs.Copied.{facts_joined}
 
--- as many facts as items
-fact_len : (items : List Proved) → length (facts_of items) ≡ length items
-fact_len items = length-map items (λ (x : Proved). x.fact)
-
 -- a fact of the top
 pub top_found : (base top : List Proved) (fact : Fact) (start p : ℕ) → start ≡ length base → slice_get (facts_of top) p ≡ Some fact → slice_get (facts_of (base ++ top)) (start + p) ≡ Some fact
 top_found base top fact start p is at =
-    let begins : start + p ≡ length (facts_of base) + p = omega (arith, is, fact_len base) in
+    let begins : start + p ≡ length (facts_of base) + p = omega (arith, is, length-map base (λ (x : Proved). x.fact)) in
     ap (slice_get (facts_of (base ++ top))) begins ∙ ap (λ (xs : List Fact). slice_get xs (length (facts_of base) + p)) (facts_joined base top) ∙ at_right (facts_of base) (facts_of top) p ∙ at
 
 -- a fact that is in neither
@@ -42,14 +38,14 @@ base_found base top fact (Some p) absent at = ap (λ (xs : List Fact). slice_get
 pub low_last : {K : Type 0} (key : Fact → K) (base top : List Proved) (k : K) (below : ℕ) (found : Option ℕ) → below ≤ length base → IsLastBelow key (facts_of base) k below found → IsLastBelow key (facts_of (base ++ top)) k below found
 low_last key base top k below found low last =
     let P : List Fact → Type 0 = λ xs. IsLastBelow key xs k below found in
-    subst P (sym (facts_joined base top)) (last_in_front key (facts_of base) (facts_of top) k below found last (λ q above under has. omega (arith, above, under, low, fact_len base)))
+    subst P (sym (facts_joined base top)) (last_in_front key (facts_of base) (facts_of top) k below found last (λ q above under has. omega (arith, above, under, low, length-map base (λ (x : Proved). x.fact))))
 
 -- the last place below a bound, in the top
 pub top_last : {K : Type 0} (key : Fact → K) (base top : List Proved) (k : K) (below start p : ℕ) → start ≡ length base → IsLastBelow key (facts_of top) k (below - start) (Some p) → IsLastBelow key (facts_of (base ++ top)) k below (Some (start + p))
 top_last key base top k below start p is last =
     let bs = facts_of base in
     let ts = facts_of top in
-    let begins : length bs ≡ start = fact_len base ∙ sym is in
+    let begins : length bs ≡ start = length-map base (λ (x : Proved). x.fact) ∙ sym is in
     let S : ℕ → Type 0 = λ n. IsPart (bs ++ ts) ts n in
     let part : IsPart (bs ++ ts) ts start = subst S begins (last_part bs ts) in
     let P : List Fact → Type 0 = λ xs. IsLastBelow key xs k below (Some (start + p)) in
@@ -60,7 +56,7 @@ pub base_last : {K : Type 0} (key : Fact → K) (base top : List Proved) (k : K)
 base_last key base top k below start found is none last =
     let bs = facts_of base in
     let ts = facts_of top in
-    let begins : length bs ≡ start = fact_len base ∙ sym is in
+    let begins : length bs ≡ start = length-map base (λ (x : Proved). x.fact) ∙ sym is in
     let S : ℕ → Type 0 = λ n. IsPart (bs ++ ts) ts n in
     let part : IsPart (bs ++ ts) ts start = subst S begins (last_part bs ts) in
     let C : ℕ → Type 0 = λ n. IsClear key (bs ++ ts) k n below in

@@ -1,18 +1,19 @@
 //! Whether an interpretation is a model of a case.
 
-ghost use Rattle.std.specs.Prelude.{◌≡◌, ◌<◌, ◌^◌, length, All, IfErr, OnOk};
-ghost use Rattle.std.specs.List.Sorted.{IsStrictlyIncreasing};
+ghost use Rattle.std.specs.Prelude.{◌≡◌, ◌<◌, ◌^◌, length, All, IfOk, IfErr, OnOk};
 ghost use Rattle.el_logic.specs.Meaning.{IsInterp};
 ghost use Rattle.case_file.specs.Cases.{AreRanksOf};
 ghost use Rattle.closed_model.specs.Models.{IsModelFor};
 ghost use Rattle.model_check.specs.Faults.{IsModelFault};
-ghost use Rattle.model_check.specs.Inside.Lists.{has_number, source_at, FindsFailing, FindsFailingRow, FindsFailingOf, FindsEmpty};
+ghost use Rattle.model_check.specs.Inside.Lists.{source_at, FindsFailing, FindsFailingRow, FindsFailingOf, FindsEmpty};
 
 use crate::ModelFault;
 use case_file::Case;
 use concept_store::nodes_stand_in_order;
-use el_logic::{Axiom, Interp, holds, is_interpretation};
+use el_logic::{Axiom, Interp, is_interpretation};
 use fact_table::Source;
+use model_members::{has_number, holds_by_lists};
+use std::alloc::{AllocError, Global};
 
 // Where axioms are from.
 #[derive(Clone, Copy)]
@@ -34,64 +35,77 @@ fn source_at(origin: Origin, number: u32) -> Source
 }
 
 // The first of the axioms from there that doesn't hold.
-fn first_failing(i: &Interp, origin: Origin, axioms: &[Axiom]) -> Option<Source>
+fn first_failing(
+    alloc: Global,
+    i: &Interp,
+    origin: Origin,
+    axioms: &[Axiom],
+) -> Result<Option<Source>, AllocError>
     requires fits { IsInterp (length i.now.classes) (length i.now.roles) i.now }
     requires few { length axioms.now < 2 ^ 32 }
-    ensures { FindsFailing i.now origin axioms.now result }
+    ensures { IfOk result (FindsFailing i.now origin axioms.now) }
 {
     let mut number = 0u32;
     for axiom in axioms {
         number += 1;
-        if !holds(i, axiom) {
-            return Some(source_at(origin, number));
+        let holds = holds_by_lists(alloc, i, axiom)?;
+        if !holds {
+            return Ok(Some(source_at(origin, number)));
         }
     }
-    None
-}
-
-// Whether ascending numbers have this one.
-fn has_number(numbers: &[u32], x: u32) -> bool
-    requires { IsStrictlyIncreasing numbers.now }
-    ensures { result ≡ has_number numbers.now x }
-{
-    match numbers.binary_search(&x) {
-        Ok(_) => true,
-        Err(_) => false,
-    }
+    Ok(None)
 }
 
 // The first of the rows' axioms that doesn't hold.
-fn first_failing_row(case: &Case, i: &Interp, ranks: &[u32]) -> Option<Source>
+fn first_failing_row(
+    alloc: Global,
+    case: &Case,
+    i: &Interp,
+    ranks: &[u32],
+) -> Result<Option<Source>, AllocError>
     requires fits { IsInterp case.now.classes case.now.properties i.now }
     requires ranks { All (λ rank. rank < length case.now.order) ranks.now }
-    ensures { FindsFailingRow case.now i.now ranks.now result }
+    ensures { IfOk result (FindsFailingRow case.now i.now ranks.now) }
 {
     let _case = case.store();
     for rank in ranks {
-        match first_failing(i, Origin::Row(*rank), case.axioms_of(*rank).as_slice()) {
-            Some(source) => return Some(source),
+        let failing = first_failing(
+            alloc,
+            i,
+            Origin::Row(*rank),
+            case.axioms_of(*rank).as_slice(),
+        )?;
+        match failing {
+            Some(source) => return Ok(Some(source)),
             None => {}
         }
     }
-    None
+    Ok(None)
 }
 
 // The first axiom that doesn't hold.
-fn first_failing_of(case: &Case, i: &Interp, ranks: &[u32]) -> Option<Source>
+fn first_failing_of(
+    alloc: Global,
+    case: &Case,
+    i: &Interp,
+    ranks: &[u32],
+) -> Result<Option<Source>, AllocError>
     requires fits { IsInterp case.now.classes case.now.properties i.now }
     requires ranks { All (λ rank. rank < length case.now.order) ranks.now }
-    ensures { FindsFailingOf case.now i.now ranks.now result }
+    ensures { IfOk result (FindsFailingOf case.now i.now ranks.now) }
 {
     let _case = case.store();
-    match first_failing(i, Origin::Left, case.left().as_slice()) {
-        Some(source) => return Some(source),
+    let of_left = first_failing(alloc, i, Origin::Left, case.left().as_slice())?;
+    match of_left {
+        Some(source) => return Ok(Some(source)),
         None => {}
     }
-    match first_failing(i, Origin::Right, case.right().as_slice()) {
-        Some(source) => return Some(source),
+    let of_right = first_failing(alloc, i, Origin::Right, case.right().as_slice())?;
+    match of_right {
+        Some(source) => return Ok(Some(source)),
         None => {}
     }
-    first_failing_row(case, i, ranks)
+    first_failing_row(alloc, case, i, ranks)
 }
 
 // The first node that must have a member and has none.
@@ -117,8 +131,14 @@ fn first_empty(case: &Case, i: &Interp) -> Option<u32>
 
 /// Whether an interpretation is a model of the case for these ranks. The first fault in this order
 /// is answered: its form, the first axiom of LEFT, RIGHT and the rows with the ranks that doesn't
-/// hold, the first class that must have a member and has none.
-pub fn check_model(case: &Case, model: &Interp, ranks: &[u32]) -> Result<(), ModelFault>
+/// hold, the first class that must have a member and has none. The domain is never walked or listed,
+/// however large it is: an axiom costs about the lists of the names that occur in it.
+pub fn check_model(
+    alloc: Global,
+    case: &Case,
+    model: &Interp,
+    ranks: &[u32],
+) -> Result<(), ModelFault>
     requires { AreRanksOf case.now ranks.now }
     ensures ok { OnOk result (IsModelFor case.now ranks.now model.now) }
     ensures fault { IfErr result (IsModelFault case.now ranks.now model.now) }
@@ -126,7 +146,11 @@ pub fn check_model(case: &Case, model: &Interp, ranks: &[u32]) -> Result<(), Mod
     if !is_interpretation(model, case.classes(), case.properties()) {
         return Err(ModelFault::Form);
     }
-    match first_failing_of(case, model, ranks) {
+    let failing = match first_failing_of(alloc, case, model, ranks) {
+        Ok(failing) => failing,
+        Err(_) => return Err(ModelFault::OutOfMemory),
+    };
+    match failing {
         Some(source) => return Err(ModelFault::Axiom(source)),
         None => {}
     }

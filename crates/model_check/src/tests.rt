@@ -47,7 +47,7 @@ fn expect(
 ) -> Result<(), Fail> {
     let case = two_classes(alloc)?;
     let model = of_two(alloc, size, first, second)?;
-    if check_model(&case, &model, &[]) == wanted {
+    if check_model(alloc, &case, &model, &[]) == wanted {
         return Ok(());
     }
     Err(Fail::from(name))
@@ -60,5 +60,13 @@ fn finds_the_first_fault(rt: HostRuntime) -> Result<(), Fail> {
     expect(alloc, "no element", 0, &[], &[], Err(ModelFault::Form))?;
     expect(alloc, "too large", 3, &[0], &[3], Err(ModelFault::Form))?;
     expect(alloc, "no members", 3, &[], &[], Err(ModelFault::Class(2)))?;
-    expect(alloc, "one member", 3, &[0], &[], Err(ModelFault::Class(3)))
+    expect(alloc, "one member", 3, &[0], &[], Err(ModelFault::Class(3)))?;
+    expect(
+        alloc,
+        "a large domain",
+        u32::MAX,
+        &[0],
+        &[u32::MAX - 1],
+        Ok(()),
+    )
 }

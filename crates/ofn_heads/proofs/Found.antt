@@ -1,12 +1,13 @@
 -- Heads are found by their names, and a word that is found is its head's name.
 use Rattle.std.proofs.Common.{◌≡◌, ◌≢◌, ℕ, Bool, true, false, cond, List, [], ◌∷◌, refl, sym, ap, ◌∙◌}
 use Rattle.std.specs.Prelude.{bytes_eq, Option, Some, None}
+use Rattle.std.specs.Option.{option_or}
 use Rattle.std.specs.Cmp.Lexicographic.{bytes_decides}
 use Rattle.ofn_heads.specs.declared.outside.HeadId.{HeadId}
 use Rattle.ofn_heads.specs.declared.outside.HeadId.TheVariants as id
 use Rattle.ofn_heads.specs.declared.head.Head.{Head}
 use Rattle.ofn_heads.specs.declared.head.Head.TheVariants as head
-use Rattle.ofn_heads.specs.Heads.{name_of, word_of, first_id, first_head, or_else, id_named, head_inside, outside_or_other, inside_or, head_of, class_axioms, data_axioms, assertions, class_expressions, data_ranges, other_names, axiom_heads, expression_heads, document_heads, entity_heads}
+use Rattle.ofn_heads.specs.Heads.{name_of, word_of, first_id, first_head, id_named, head_inside, outside_or_other, inside_or, head_of, class_axioms, data_axioms, assertions, class_expressions, data_ranges, other_names, axiom_heads, expression_heads, document_heads, entity_heads}
 
 -- each head outside the fragment is found by its name
 pub id_found : (h : HeadId) → id_named (name_of h) ≡ Some h
@@ -70,7 +71,7 @@ first_id_name (k ∷ hs) name h found = by (bytes_eq name (name_of k)) refl foun
     by false e s later = later s
 
 -- what is found in one of two lists
-or_else_case : {X : Type 0} {P : Type 0} (one other : Option X) (x : X) → (one ≡ Some x → P) → (other ≡ Some x → P) → or_else one other ≡ Some x → P
+or_else_case : {X : Type 0} {P : Type 0} (one other : Option X) (x : X) → (one ≡ Some x → P) → (other ≡ Some x → P) → option_or one other ≡ Some x → P
 or_else_case (Some y) other x first second found = first found
 or_else_case None other x first second found = second found
 

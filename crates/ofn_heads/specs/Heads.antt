@@ -1,5 +1,6 @@
 -- The table of heads.
 use Rattle.std.specs.Prelude.{ℕ, List, [], ◌∷◌, codes, bytes_eq, if◌then◌else◌, Option, Some, None}
+use Rattle.std.specs.Option.{option_or}
 use Rattle.ofn_heads.specs.declared.outside.HeadId.{HeadId}
 use Rattle.ofn_heads.specs.declared.outside.HeadId.TheVariants as id
 use Rattle.ofn_heads.specs.declared.head.Head.{Head}
@@ -153,26 +154,22 @@ abbrev pub first_head : List Head → List ℕ → Option Head
 first_head [] word = None
 first_head (h ∷ hs) word = if bytes_eq word (word_of h) then Some h else first_head hs word
 
-abbrev pub or_else : {X : Type 0} → Option X → Option X → Option X
-or_else (Some x) other = Some x
-or_else None other = other
-
 -- the head outside the fragment that has a name
 abbrev pub id_named : List ℕ → Option HeadId
 id_named name =
-    or_else (first_id class_axioms name) (
-    or_else (first_id data_axioms name) (
-    or_else (first_id assertions name) (
-    or_else (first_id class_expressions name) (
-    or_else (first_id data_ranges name) (
+    option_or (first_id class_axioms name) (
+    option_or (first_id data_axioms name) (
+    option_or (first_id assertions name) (
+    option_or (first_id class_expressions name) (
+    option_or (first_id data_ranges name) (
     first_id other_names name)))))
 
 -- the head of the fragment that is a word
 abbrev pub head_inside : List ℕ → Option Head
 head_inside word =
-    or_else (first_head axiom_heads word) (
-    or_else (first_head expression_heads word) (
-    or_else (first_head document_heads word) (
+    option_or (first_head axiom_heads word) (
+    option_or (first_head expression_heads word) (
+    option_or (first_head document_heads word) (
     first_head entity_heads word)))
 
 abbrev pub outside_or_other : Option HeadId → Head

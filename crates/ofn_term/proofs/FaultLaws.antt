@@ -10,6 +10,7 @@ use Rattle.ofn_term.specs.Inside.PieceReading.{first_open, bracket_fault}
 use Rattle.ofn_term.proofs.Closing.{fault_at_open, closing_is_not_open}
 use Rattle.ofn_term.proofs.FaultSteps.{Within, Never, opened, closed, open_is_not_closing}
 use Rattle.ofn_term.proofs.Faults.{first_kept, opened_one}
+use Rattle.ofn_term.proofs.Reading.{fault_past}
 
 -- after one more token
 tail_paired : (depth next : ℕ) (token : Token) (tokens : List Token) → depth + opened token ≡ next + closed token →
@@ -55,11 +56,6 @@ fault_at_closing most depth first token tokens o c some =
     let not_none : (depth == 0) ≡ false = grind (arith, nat_tests) in
     rw (o, c, not_none) refl
 
--- the first fault, past another token
-fault_at_other : (most depth first : ℕ) (token : Token) (tokens : List Token) → is_open token ≡ false → is_close token ≡ false →
-    bracket_fault most depth first (token ∷ tokens) ≡ bracket_fault most depth first tokens
-fault_at_other most depth first token tokens o c = rw (o, c) refl
-
 -- a test that fails counts nothing
 pub no_one : (b : Bool) → b ≡ false → let n : ℕ = cond b 1 0 in n ≡ 0
 no_one b e = ap (λ (v : Bool). let n : ℕ = cond v 1 0 in n) e
@@ -99,7 +95,7 @@ passes_by false false most depth first token o c paired shallow =
       next = depth;
       first' = first;
       count = count;
-      same = λ tokens. fault_at_other most depth first token tokens o c;
+      same = λ tokens. fault_past most depth first token tokens o c;
       kept = λ k. refl;
     }
 

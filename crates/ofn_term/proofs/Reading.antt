@@ -41,7 +41,7 @@ none_read text most depth first begin items e tokens begins = record {
 }
 
 -- past a token that is no bracket, the first fault is the same
-fault_past : (most depth first : ℕ) (token : Token) (behind : List Token) → is_open token ≡ false → is_close token ≡ false →
+pub fault_past : (most depth first : ℕ) (token : Token) (behind : List Token) → is_open token ≡ false → is_close token ≡ false →
     bracket_fault most depth first (token ∷ behind) ≡ bracket_fault most depth first behind
 fault_past most depth first token behind o c = rw (o, c) refl
 

@@ -1,6 +1,7 @@
 -- A text has items or one first fault.
-use Rattle.std.proofs.Common.{◌≡◌, ℕ, ◌+◌, ◌-◌, Bool, true, false, cond, ◌&&◌, ◌||◌, List, [], ◌∷◌, map, subst, ap, sym, ◌∙◌, refl, arith, zero, suc}
+use Rattle.std.proofs.Common.{◌≡◌, ℕ, ◌+◌, ◌-◌, Bool, true, false, cond, ◌&&◌, List, [], ◌∷◌, map, subst, ap, sym, ◌∙◌, refl, arith, zero, suc}
 use Rattle.std.specs.Prelude.{Option, Some, None, ◌==◌, nat_lt}
+use Rattle.std.proofs.lemmas.Bool.{or_parts}
 use Rattle.std.proofs.lemmas.Bool.Decides.{nat_tests}
 use Rattle.ofn_lex.specs.declared.token.Token.{Token}
 use Rattle.ofn_lex.specs.declared.token.LexFault.{LexFault}
@@ -174,11 +175,6 @@ no_open_kind kind e = ap (λ (k : TokenKind). let n : ℕ = cond (is_open_kind k
 no_close_kind : (kind : TokenKind) → kind ≡ Run → let n : ℕ = cond (is_close_kind kind) 1 0 in n ≡ 0
 no_close_kind kind e = ap (λ (k : TokenKind). let n : ℕ = cond (is_close_kind k) 1 0 in n) e
 
--- neither test passes
-neither : (v w : Bool) → (v || w) ≡ false → (v ≡ false) × (w ≡ false)
-neither true w e = cc
-neither false w e = (refl, e)
-
 -- written tokens open as often as their pieces
 opens_written : (text : List ℕ) (ps : List Piece) → AreInPlace text ps → opens (map token_of ps) ≡ openings ps
 opens_written text [] placed = refl
@@ -189,7 +185,7 @@ opens_written text (head token ∷ ps) placed =
     omega (arith, no_open_kind token.kind (word_is_run token.kind _ _ placed.0))
 opens_written text (atom token ∷ ps) placed =
     let h : opens (map token_of ps) ≡ openings ps = opens_written text ps placed.2 in
-    omega (arith, no_one (is_open token) (neither (is_open token) (is_close token) placed.0).0)
+    omega (arith, no_one (is_open token) (or_parts (is_open token) (is_close token) placed.0).0)
 
 -- written tokens close as often as their pieces
 closes_written : (text : List ℕ) (ps : List Piece) → AreInPlace text ps → closes (map token_of ps) ≡ closings ps
@@ -201,7 +197,7 @@ closes_written text (head token ∷ ps) placed =
     omega (arith, no_close_kind token.kind (word_is_run token.kind _ _ placed.0))
 closes_written text (atom token ∷ ps) placed =
     let h : closes (map token_of ps) ≡ closings ps = closes_written text ps placed.2 in
-    omega (arith, no_one (is_close token) (neither (is_open token) (is_close token) placed.0).1)
+    omega (arith, no_one (is_close token) (or_parts (is_open token) (is_close token) placed.0).1)
 
 -- the tokens of items open as often as they close
 stand_even : (text : List ℕ) (items : List Item) (tokens : List Token) → StandFor text items tokens → opens tokens ≡ closes tokens

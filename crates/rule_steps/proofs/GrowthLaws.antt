@@ -17,7 +17,7 @@ use Rattle.el_rules.specs.Following.{IsEarlier, IsPlacedBelow, FollowsByReason, 
 use Rattle.case_file.specs.Cases.{theory_of}
 use Rattle.rule_steps.specs.Counted.{GroundsView, nodes_of}
 use Rattle.rule_steps.specs.Growing.{facts_in, AreLinksWithin, AreDerived, HasGrown}
-use Rattle.rule_steps.specs.Answering.{IsAt, AreClosedBelow, IsAnsweredFirst, IsAnsweredSecond, AreBegunBelow}
+use Rattle.rule_steps.specs.Answering.{IsAt, AreClosedBelow, IsAnswered, IsAnsweredByInclusions, IsAnsweredFirst, IsAnsweredSecond, AreBegunBelow}
 use Rattle.rule_steps.specs.Inside.Steps.{IsDerivedFrom, IsLinkWithin}
 use Rattle.rule_steps.proofs.Giving.{gives_more}
 use Rattle.rule_steps.proofs.PlaceLaws.{at_stays, was_at, only_end}
@@ -120,6 +120,24 @@ module _ (grounds : GroundsView) where
       subst (λ xs. IsAnsweredSecond (nodes_of grounds) Named p xs rule) (sym longer.1)
       (second_stays (nodes_of grounds) Named p (facts_in old) longer.0 rule (slice_get_within (facts_in old) p fact at) answered)
 
+  pub answered_grown : (Named : NodeAxiom → Type 0) (old new : Topped) (p : ℕ) → HasGrown grounds old new → p < length (facts_in old) →
+      IsAnswered (nodes_of grounds) Named p (facts_in old) → IsAnswered (nodes_of grounds) Named p (facts_in new)
+  answered_grown Named old new p grown within answered =
+      let longer = grown_facts old new grown in
+      subst (IsAnswered (nodes_of grounds) Named p) (sym longer.1) (λ rule. (
+        first_stays (nodes_of grounds) Named p (facts_in old) longer.0 rule within (answered rule).0,
+        second_stays (nodes_of grounds) Named p (facts_in old) longer.0 rule within (answered rule).1,
+      ))
+
+  pub inclusions_grown : (Named : NodeAxiom → Type 0) (old new : Topped) (p : ℕ) → HasGrown grounds old new → p < length (facts_in old) →
+      IsAnsweredByInclusions (nodes_of grounds) Named p (facts_in old) → IsAnsweredByInclusions (nodes_of grounds) Named p (facts_in new)
+  inclusions_grown Named old new p grown within answered =
+      let longer = grown_facts old new grown in
+      subst (IsAnsweredByInclusions (nodes_of grounds) Named p) (sym longer.1) (
+        first_stays (nodes_of grounds) Named p (facts_in old) longer.0 Rule.Incl within answered.0,
+        first_stays (nodes_of grounds) Named p (facts_in old) longer.0 Rule.Role within answered.1,
+      )
+
   -- what was closed and begun stays so
   pub closed_grown : (Named : NodeAxiom → Type 0) (old new : Topped) (p : ℕ) → HasGrown grounds old new → p ≤ length (facts_in old) →
       AreClosedBelow (nodes_of grounds) Named p (facts_in old) → AreClosedBelow (nodes_of grounds) Named p (facts_in new)
@@ -144,7 +162,7 @@ module _ (grounds : GroundsView) where
   placed_stays old new k fact grown (place, below, at) = (place, below, at_grown old new place fact grown at)
 
 -- the item of a fact at a place
-item_at : (items : List Proved) (k : ℕ) (fact : Fact) → slice_get (facts_of items) k ≡ Some fact → (item : Proved) × (slice_get items k ≡ Some item) × (item.fact ≡ fact)
+pub item_at : (items : List Proved) (k : ℕ) (fact : Fact) → slice_get (facts_of items) k ≡ Some fact → (item : Proved) × (slice_get items k ≡ Some item) × (item.fact ≡ fact)
 item_at [] k fact at = absurd (none-some fact at)
 item_at (item ∷ items) zero fact at = (item, refl, same_Some item.fact fact at)
 item_at (item ∷ items) (suc k) fact at = item_at items k fact at

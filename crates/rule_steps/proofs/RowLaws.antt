@@ -71,7 +71,7 @@ separates_no (SubClass low high) c d is says = says
 separates_no (SubRole chain into first) c d is says = says
 separates_no _ c d is says = is
 
-reflexive_no : (said : NodeAxiom) (r : ℕ) → IsInclusion said → MakesReflexive said r → ⊥
+pub reflexive_no : (said : NodeAxiom) (r : ℕ) → IsInclusion said → MakesReflexive said r → ⊥
 reflexive_no (SubClass low high) r is says = says
 reflexive_no (SubRole chain into first) r is says = says
 reflexive_no _ r is says = is

@@ -78,6 +78,13 @@ impl<'a> Grounds<'a> {
         }
     }
 
+    /// The case.
+    pub fn case(&self) -> &Case
+        ensures { result.now ≡ self.now.case }
+    {
+        self.case
+    }
+
     /// The nodes and roles.
     pub fn store(&self) -> &Store
         ensures { result.now ≡ self.now.case.store }

@@ -1,16 +1,19 @@
 //! Laws of a worklist over places.
 
-ghost use Rattle.std.specs.Prelude.{◌+◌, ◌<◌, ◌≤◌, ◌⊎◌, ℕ, List, Some, Contains, length};
+ghost use Rattle.std.specs.Prelude.{◌≡◌, ◌+◌, ◌<◌, ◌≤◌, ◌⊎◌, ℕ, List, Some, Contains, length, slice_get};
 ghost use Rattle.fact_table.specs.declared.types.Fact.{Fact};
 ghost use Rattle.fact_table.specs.declared.types.Proved.{Proved};
+ghost use Rattle.fact_table.specs.Lists.{facts_of};
 ghost use Rattle.fact_layers.specs.Tops.{Topped};
+ghost use Rattle.concept_store.specs.declared.types.NodeAxiom.{NodeAxiom};
 ghost use Rattle.el_rules.specs.Following.{AreClosed};
+ghost use Rattle.el_rules.specs.Saying.{MakesReflexive};
 ghost use Rattle.case_file.specs.declared.types.CaseInput.{CaseInput};
 ghost use Rattle.case_file.specs.Cases.{IsCaseInput, case_of};
 ghost use Rattle.rule_steps.specs.Counted.{GroundsView, IsCounted, IsCountedSince, nodes_of};
 ghost use Rattle.rule_steps.specs.Growing.{facts_in, AreDerived, HasGrown};
 ghost use Rattle.rule_steps.specs.Answering.{AreClosedBelow, IsAnswered, IsAnsweredByInclusions, AreBegunBelow};
-ghost use Rattle.rule_steps.specs.RowAxioms.{HaveRowsInclusions};
+ghost use Rattle.rule_steps.specs.RowAxioms.{IsInclusion, HaveRowsInclusions};
 
 /// If what is below a place is closed, and the place is answered, what is below the next is closed.
 pub fn an_answered_place_is_closed()
@@ -28,7 +31,7 @@ pub fn facts_closed_to_the_end_are_closed()
         → AreClosed (nodes_of grounds) (IsCounted grounds) facts }
 {}
 
-/// A list that grows twice has grown, and what is closed and begun stays so.
+/// A list that grows twice has grown, and what is closed, begun and answered stays so.
 pub fn growing_takes_nothing_away()
     ensures none { (grounds : GroundsView) (layers : Topped) → HasGrown grounds layers layers }
     ensures twice { (grounds : GroundsView) (one two three : Topped)
@@ -41,11 +44,31 @@ pub fn growing_takes_nothing_away()
         → HasGrown grounds old new
         → AreBegunBelow (nodes_of grounds) (IsCounted grounds) n (facts_in old)
         → AreBegunBelow (nodes_of grounds) (IsCounted grounds) n (facts_in new) }
+    ensures answered { (grounds : GroundsView) (old new : Topped) (p : ℕ)
+        → HasGrown grounds old new → p < length (facts_in old)
+        → IsAnswered (nodes_of grounds) (IsCounted grounds) p (facts_in old)
+        → IsAnswered (nodes_of grounds) (IsCounted grounds) p (facts_in new) }
+    ensures by_inclusions { (grounds : GroundsView) (old new : Topped) (first p : ℕ)
+        → HasGrown grounds old new → p < length (facts_in old)
+        → IsAnsweredByInclusions (nodes_of grounds) (IsCountedSince (Some first) grounds) p
+        (facts_in old) → IsAnsweredByInclusions (nodes_of grounds)
+        (IsCountedSince (Some first) grounds) p (facts_in new) }
 {}
 
-/// Each axiom of a row is an inclusion of nodes, or of one role in another.
+/// Each axiom of a row is an inclusion of nodes, or of one role in another, and no such axiom makes
+/// a role reflexive.
 pub fn rows_have_inclusions()
-    ensures { (input : CaseInput) → IsCaseInput input → HaveRowsInclusions (case_of input).over }
+    ensures rows { (input : CaseInput) → IsCaseInput input
+        → HaveRowsInclusions (case_of input).over }
+    ensures reflexive { (said : NodeAxiom) (role : ℕ) → IsInclusion said
+        → ¬ (MakesReflexive said role) }
+{}
+
+/// A fact at a place is that of the item at this place.
+pub fn facts_stand_where_their_items_do()
+    ensures { (items : List Proved) (place : ℕ) (fact : Fact)
+        → slice_get (facts_of items) place ≡ Some fact
+        → (item : Proved) × (slice_get items place ≡ Some item) × (item.fact ≡ fact) }
 {}
 
 /// What is closed for some rows is closed for further ones once the inclusions of these are

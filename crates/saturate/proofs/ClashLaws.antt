@@ -26,10 +26,6 @@ facts_length items = length-map items (λ (item : Proved). item.fact)
 pub nodes_end : (case : CaseView) (store : Numbered) (end node : ℕ) → store ≡ case.store → end ≡ length store.nodes → end ≤ node → length case.store.nodes ≤ node
 nodes_end case store end node same count past = subst (λ (s : Numbered). length s.nodes ≤ node) same (omega (arith, count, past))
 
--- the fact of the item at a place
-pub fact_at : (items : List Proved) (place : ℕ) (item : Proved) → slice_get items place ≡ Some item → slice_get (facts_of items) place ≡ Some item.fact
-fact_at items place item at = slice_get-map (λ (i : Proved). i.fact) items place ∙ ap (option_map (λ (i : Proved). i.fact)) at
-
 -- no clash at one more place
 pub live_more : (case : CaseView) (items : List Proved) (from place : ℕ) (item : Proved) → slice_get items place ≡ Some item → ¬ (IsClash case item.fact)
     → AreLiveWithin case from place (facts_of items) → AreLiveWithin case from (place + 1) (facts_of items)
@@ -37,7 +33,8 @@ live_more case items from place item at none live other past below (fact, is, cl
     (λ less. live other past less (fact, is, clash))
     (λ more. let same : other ≡ place = omega arith in
     let here : slice_get (facts_of items) place ≡ Some fact = subst (λ k. slice_get (facts_of items) k ≡ Some fact) same is in
-    none (subst (IsClash case) (sym (same_Some item.fact fact (sym (fact_at items place item at) ∙ here))) clash))
+    let said : slice_get (facts_of items) place ≡ Some item.fact = slice_get-map (λ (i : Proved). i.fact) items place ∙ ap (option_map (λ (i : Proved). i.fact)) at in
+    none (subst (IsClash case) (sym (same_Some item.fact fact (sym said ∙ here))) clash))
     (cases_lt other place)
 
 -- none in a shorter stretch

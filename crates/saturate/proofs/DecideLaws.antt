@@ -21,7 +21,7 @@ use Rattle.rule_steps.specs.Growing.{facts_in, AreDerived}
 use Rattle.saturate.specs.Decisions.{ShowsFirstEmpty}
 use Rattle.saturate.specs.Inside.Clashes.{IsClash, HasClashAt, AreLiveNodes, IsFirstClash}
 use Rattle.saturate.specs.Inside.Saturated.{IsSaturated, IsLive, grounds_of, table_of}
-use Rattle.saturate.proofs.Places.{held_at, item_at}
+use Rattle.saturate.proofs.Places.{held_at}
 use Rattle.saturate.proofs.ClashLaws.{facts_length, live_facts}
 
 -- a case, a part and ranks, as grounds
@@ -86,9 +86,8 @@ place_within items place fact at =
 
 -- the trace of a node's emptiness is a good derivation
 pub good_trace : (case : CaseView) (part : Part) (ranks : List ℕ) (items : List Proved) (place node : ℕ) (steps : List Step) → AreGoodSteps case part ranks steps
-    → ((item : Proved) → slice_get items place ≡ Some item → EndsIn steps item.fact) → IsMustHave case node → slice_get (facts_of items) place ≡ Some (Sub node 1) → IsGoodDerivation case part ranks steps × EndsIn steps (Sub node 1)
-good_trace case part ranks items place node steps good ends must at =
-    let found = item_at items place (Sub node 1) at in
+    → ((item : Proved) → slice_get items place ≡ Some item → EndsIn steps item.fact) → IsMustHave case node → (item : Proved) × (slice_get items place ≡ Some item) × (item.fact ≡ Sub node 1) → IsGoodDerivation case part ranks steps × EndsIn steps (Sub node 1)
+good_trace case part ranks items place node steps good ends must found =
     let last : EndsIn steps (Sub node 1) = subst (EndsIn steps) found.2 (ends found.0 found.1) in
     (record { good = good; shows = (node, must, last) }, last)
 

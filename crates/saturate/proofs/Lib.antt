@@ -7,6 +7,9 @@ mod OldFacts
 mod ClashLaws
 mod LoopLaws
 mod ReadyLaws
+mod AnsweredLaws
+mod RowWalks
+mod NodeLaws
 mod EnterLaws
 mod DecideLaws
 mod RankLaws

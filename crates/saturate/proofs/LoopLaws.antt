@@ -25,31 +25,6 @@ begun_more nodes Named node facts each here other below = ⊎_elim
     (λ more. let same : other ≡ node = omega arith in subst (λ n. IsBegun nodes Named n facts) (sym same) here)
     (cases_lt other node)
 
--- what is answered stays so in a longer list
-answered_longer : (nodes : List Node) (Named : NodeAxiom → Type 0) (p : ℕ) (facts more : List Fact) (rule : Rule) → p < length facts
-    → IsAnsweredFirst nodes Named p facts rule → IsAnsweredFirst nodes Named p (facts ++ more) rule
-answered_longer nodes Named p facts more rule within answered fact some given =
-    Contains-append_left facts more fact (answered fact some
-    (gives_more nodes Named Named (IsAt p (facts ++ more)) (IsPlacedBelow (p + 1) (facts ++ more)) (IsAt p facts) (IsPlacedBelow (p + 1) facts)
-    (λ said is. is) (λ f at. was_at facts more p f within at) (λ f below. (below.0, below.1, was_at facts more below.0 f (omega (arith, below.1)) below.2)) rule fact given))
-
--- and so in a list that has grown
-rows_grown : (grounds : GroundsView) (first below : ℕ) (old new : Topped) → HasGrown grounds old new → below ≤ length (facts_in old) → AreAnsweredByRows grounds first below (facts_in old) → AreAnsweredByRows grounds first below (facts_in new)
-rows_grown grounds first below old new grown within answered place under =
-    let longer = grown_facts grounds old new grown in
-    let Named : NodeAxiom → Type 0 = IsCountedSince (Some first) grounds in
-    let was = answered place under in
-    subst (IsAnsweredByInclusions (nodes_of grounds) Named place) (sym longer.1)
-    (answered_longer (nodes_of grounds) Named place (facts_in old) longer.0 Rule.Incl (omega arith) was.0, answered_longer (nodes_of grounds) Named place (facts_in old) longer.0 Rule.Role (omega arith) was.1)
-
--- one more place is answered
-pub rows_more : (grounds : GroundsView) (first place : ℕ) (old new : Topped) → HasGrown grounds old new → place < length (facts_in old) → AreAnsweredByRows grounds first place (facts_in old)
-    → IsAnsweredByInclusions (nodes_of grounds) (IsCountedSince (Some first) grounds) place (facts_in new) → AreAnsweredByRows grounds first (place + 1) (facts_in new)
-rows_more grounds first place old new grown within answered here other below = ⊎_elim
-    (λ less. rows_grown grounds first place old new grown (omega arith) answered other less)
-    (λ more. let same : other ≡ place = omega arith in subst (λ k. IsAnsweredByInclusions (nodes_of grounds) (IsCountedSince (Some first) grounds) k (facts_in new)) (sym same) here)
-    (cases_lt other place)
-
 -- the list is no shorter
 pub grown_length : (grounds : GroundsView) (old new : Topped) → HasGrown grounds old new → length (facts_in old) ≤ length (facts_in new)
 grown_length grounds old new grown =

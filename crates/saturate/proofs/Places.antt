@@ -1,8 +1,8 @@
 -- Elements of a list at their places, and lists of facts that have grown.
-use Rattle.std.proofs.Common.{◌≡◌, ◌∙◌, ℕ, zero, suc, ◌<◌, List, [], ◌∷◌, ◌++◌, length, Contains, Some, refl, ap, sym, subst, arith, append_assoc}
+use Rattle.std.proofs.Common.{◌≡◌, ◌∙◌, ℕ, zero, suc, ◌<◌, List, [], ◌∷◌, ◌++◌, length, Contains, Some, ap, sym, subst, arith, append_assoc}
 use Rattle.std.specs.Prelude.{slice_get}
 use Rattle.std.proofs.lemmas.List.{map-append}
-use Rattle.std.proofs.lemmas.Option.{slice_get_within, slice_get-get_or, get_or_from_slice_get, none-some, same_Some}
+use Rattle.std.proofs.lemmas.Option.{slice_get_within, slice_get-get_or, get_or_from_slice_get}
 use Rattle.fact_table.specs.declared.types.Fact.{Fact}
 use Rattle.fact_table.specs.declared.types.Proved.{Proved}
 use Rattle.fact_table.specs.Lists.{facts_of}
@@ -24,12 +24,6 @@ module _ {T : Type 0} where
   -- what is at a place is an element
   pub held_at : (xs : List T) (k : ℕ) (x : T) → slice_get xs k ≡ Some x → Contains xs x
   held_at xs k x at = (k, slice_get_within xs k x at, get_or_from_slice_get xs k x x at)
-
--- the item of a fact at a place
-pub item_at : (items : List Proved) (k : ℕ) (fact : Fact) → slice_get (facts_of items) k ≡ Some fact → (item : Proved) × (slice_get items k ≡ Some item) × (item.fact ≡ fact)
-item_at [] k fact at = absurd (none-some fact at)
-item_at (item ∷ items) zero fact at = (item, refl, same_Some item.fact fact at)
-item_at (item ∷ items) (suc k) fact at = item_at items k fact at
 
 -- the whole list after it grew
 pub grown_whole : (grounds : GroundsView) (old new : Topped) → HasGrown grounds old new → (more : List Proved) × (whole new ≡ whole old ++ more)

@@ -35,7 +35,7 @@ no_place : (facts : List Fact) (fact : Fact) → IsPlacedBelow 0 facts fact → 
 no_place facts fact (k, below, at) = omega arith
 
 -- so no rule with premises gives a fact from there
-no_premise : (nodes : List Node) (Named : NodeAxiom → Type 0) (facts : List Fact) (rule : Rule) (fact : Fact) → 0 < premises rule
+pub no_premise : (nodes : List Node) (Named : NodeAxiom → Type 0) (facts : List Fact) (rule : Rule) (fact : Fact) → 0 < premises rule
     → Gives nodes Named (IsPlacedBelow 0 facts) (IsPlacedBelow 0 facts) rule fact → ⊥
 no_premise nodes Named facts Rule.Itself fact some given = omega (arith, some)
 no_premise nodes Named facts Rule.Top fact some given = omega (arith, some)
@@ -63,18 +63,6 @@ ready_none grounds layers derived begun = record {
   closed = λ rule fact some given. absurd (no_premise (nodes_of grounds) (IsCounted grounds) (facts_in layers) rule fact some given);
   live = λ place past under. absurd (omega arith);
 }
-
--- what was decided
-pub decided_as : (grounds : GroundsView) (case : CaseView) (new : Topped) (found : Option ℕ) → grounds.case ≡ case
-    → (AreClosedBelow (nodes_of grounds) (IsCounted grounds) (length (facts_in new)) (facts_in new) → IsSaturated grounds new)
-    → MatchOption found (AreClosedBelow (nodes_of grounds) (IsCounted grounds) (length (facts_in new)) (facts_in new)) (HasClashAt case (facts_in new))
-    → MatchOption found (AreLiveWithin case 0 (length (facts_in new)) (facts_in new)) (HasClashAt case (facts_in new))
-    → MatchOption found (IsLive grounds new) (HasClashAt grounds.case (facts_in new))
-decided_as grounds case new None same to_end closed live = record {
-  closed = to_end closed;
-  live = subst (λ v. AreLiveWithin v 0 (length (facts_in new)) (facts_in new)) (sym same) live;
-}
-decided_as grounds case new (Some place) same to_end clash live = subst (λ v. HasClashAt v (facts_in new) place) (sym same) clash
 
 -- a source of some ranks is one of more
 source_more : (olds ranks : List ℕ) → ((rank : ℕ) → Contains olds rank → Contains ranks rank) → (source : Source) → IsSourceOf Part.Both olds source → IsSourceOf Part.Both ranks source

@@ -1,17 +1,12 @@
 -- The roles that axioms over nodes lead to are roles of their store.
-use Rattle.std.proofs.Common.{◌≡◌, ◌∙◌, ℕ, suc, ◌+◌, ◌-◌, ◌<◌, ◌≤◌, inl, inr, List, [], ◌∷◌, ◌++◌, length, map, All, refl, ap, subst, arith, length-append}
-use Rattle.std.specs.List.{range_with_len}
-use Rattle.std.proofs.lemmas.List.{length-map}
-use Rattle.std.proofs.lemmas.List.FromFn.{length-range_with_len}
+use Rattle.std.proofs.Common.{◌≡◌, ℕ, suc, ◌+◌, ◌-◌, ◌<◌, ◌≤◌, inl, inr, List, [], ◌∷◌, length, All, subst, arith}
 use Rattle.std.proofs.lemmas.List.Elements.{All-contains, All-cons, All-nil}
 use Rattle.el_logic.specs.declared.types.Axiom.{Axiom}
 use Rattle.el_logic.specs.declared.types.Axiom.TheVariants as A
-use Rattle.el_logic.specs.declared.types.Side.{Side}
 use Rattle.concept_store.specs.declared.types.NodeAxiom.{NodeAxiom}
-use Rattle.concept_store.specs.declared.types.RoleNode.TheVariants.{Named, Part}
 use Rattle.concept_store.specs.Trees.{Tree}
 use Rattle.concept_store.specs.Nodes.{over, all_over, part_count, parts_within}
-use Rattle.concept_store.specs.Roles.{IsOver, parts_of, parts_in, roles_of}
+use Rattle.concept_store.specs.Roles.{IsOver}
 use Rattle.el_rules.specs.Saying.{IncludesRole, Joins, JoinsAlong, MakesReflexive}
 
 -- the roles that an axiom leads to are below a number
@@ -63,21 +58,3 @@ all_within trees classes props roles first (axiom' ∷ axioms) each fits room =
     All-cons (LeadsWithin roles) (over trees first axiom') (all_over trees (first + part_count axiom') axioms)
     (over_within trees classes props roles first axiom' (each 0 axiom' (omega arith)) fits (omega arith))
     (all_within trees classes props roles (first + part_count axiom') axioms (λ k d within. each (suc k) d (omega arith)) fits (omega arith))
-
--- a chain has as many parts as are counted
-parts_count : (side : Side) (number : ℕ) (axioms : List Axiom) → length (parts_in side number axioms) ≡ parts_within axioms
-parts_count side number [] = refl
-parts_count side number (axiom' ∷ axioms) =
-    length-append (parts_of side number axiom') (parts_in side (number + 1) axioms)
-    ∙ ap (λ n. n + length (parts_in side (number + 1) axioms)) (length-map (range_with_len 2 (part_count axiom')) (Part side number) ∙ length-range_with_len 2 (part_count axiom'))
-    ∙ ap (λ n. part_count axiom' + n) (parts_count side (number + 1) axioms)
-
--- so there is room for those of LEFT and of RIGHT after the properties
-pub roles_count : (props : ℕ) (left right : List Axiom) → length (roles_of props left right) ≡ props + parts_within left + parts_within right
-roles_count props left right =
-    let names = length-map (range_with_len 0 props) Named ∙ length-range_with_len 0 props in
-    let one = parts_count Side.Left 1 left in
-    let two = parts_count Side.Right 1 right in
-    let first = length-append (map Named (range_with_len 0 props)) (parts_in Side.Left 1 left) in
-    let second = length-append (map Named (range_with_len 0 props) ++ parts_in Side.Left 1 left) (parts_in Side.Right 1 right) in
-    omega arith

@@ -1,6 +1,6 @@
 -- Links that follow are by roles of the case.
-use Rattle.std.proofs.Common.{◌≡◌, ◌∙◌, ℕ, ◌+◌, ◌<◌, ◌≤◌, List, [], length, map, get_or, All, ap, sym, subst, ⊎_elim, arith}
-use Rattle.std.specs.Prelude.{slice_index_or}
+use Rattle.std.proofs.Common.{◌≡◌, ◌∙◌, ℕ, ◌+◌, ◌<◌, ◌≤◌, List, [], length, map, get_or, Some, All, ap, sym, subst, ⊎_elim, arith}
+use Rattle.std.specs.Prelude.{slice_get, slice_index_or}
 use Rattle.std.proofs.lemmas.Bool.{cases_lt}
 use Rattle.std.proofs.Math.ListN.{get_or-eq_default}
 use Rattle.std.proofs.lemmas.List.{get_or-map, length-map}
@@ -11,7 +11,7 @@ use Rattle.el_logic.specs.declared.types.Part.{Part}
 use Rattle.concept_store.specs.declared.types.NodeAxiom.{NodeAxiom}
 use Rattle.concept_store.specs.Nodes.{trees_of, parts_within}
 use Rattle.concept_store.specs.Order.{AreInOrder}
-use Rattle.concept_store.specs.Roles.{Numbered, IsOver, AreOver, store_of}
+use Rattle.concept_store.specs.Roles.{Numbered, IsOver, AreOver, roles_of, store_of}
 use Rattle.fact_table.specs.declared.types.Fact.{Fact}
 use Rattle.fact_table.specs.declared.types.Fact.TheVariants.{Link}
 use Rattle.fact_table.specs.declared.types.Proved.{Proved}
@@ -23,8 +23,8 @@ use Rattle.el_rules.specs.Theories.{IsNamedBy, IsNumbered}
 use Rattle.el_rules.specs.Following.{EachFollowsByReason, IsEarlier}
 use Rattle.case_file.specs.Cases.{CaseView, IsCase, IsRowAxiom, row_over, row_at, rows_over, theory_of}
 use Rattle.rule_steps.specs.Growing.{AreLinksWithin}
-use Rattle.saturate.proofs.Places.{held_at, item_at}
-use Rattle.saturate.proofs.RoleBounds.{LeadsWithin, over_within, all_within, roles_count}
+use Rattle.saturate.proofs.Places.{held_at}
+use Rattle.saturate.proofs.RoleBounds.{LeadsWithin, over_within, all_within}
 
 -- an axiom of a row
 row_leads : (classes props roles : ℕ) (said : Axiom) → IsRowAxiom said → IsOver classes props said → props ≤ roles → LeadsWithin roles (row_over said)
@@ -54,13 +54,14 @@ rank_leads classes props roles rows order rank are over fits = ⊎_elim
     (All-nil (LeadsWithin roles)))
     (cases_lt rank (length order))
 
-module _ (case : CaseView) (is : IsCase case) (in_order : AreInOrder case.classes case.properties case.store.nodes) where
+module _ (case : CaseView) (is : IsCase case) (in_order : AreInOrder case.classes case.properties case.store.nodes)
+    (role_count : length (roles_of case.properties case.left case.right) ≡ case.properties + parts_within case.left + parts_within case.right) where
   store_is : store_of case.classes case.properties case.left case.right ≡ case.store
   store_is = sym (ap (λ (v : CaseView). v.store) is.built)
 
   -- the properties and the parts of chains are the roles
   room : case.properties + parts_within case.left + parts_within case.right ≡ length case.store.roles
-  room = sym (roles_count case.properties case.left case.right) ∙ ap (λ (s : Numbered). length s.roles) store_is
+  room = sym role_count ∙ ap (λ (s : Numbered). length s.roles) store_is
 
   left_leads : All (LeadsWithin (length case.store.roles)) case.store.left
   left_leads =
@@ -102,9 +103,11 @@ module _ (case : CaseView) (is : IsCase case) (in_order : AreInOrder case.classe
   given_leads Named One Two leads _ a r b given = absurd given
 
   -- each link is by a role of the case
-  pub links_within : (part : Part) (ranks : List ℕ) (items : List Proved) → EachFollowsByReason case.store.nodes (theory_of case) part ranks items → AreLinksWithin (length case.store.roles) (facts_of items)
-  links_within part ranks items follows k a r b at =
-      let found = item_at items k (Link a r b) at in
+  pub links_within : (part : Part) (ranks : List ℕ) (items : List Proved)
+      → ((k : ℕ) (fact : Fact) → slice_get (facts_of items) k ≡ Some fact → (item : Proved) × (slice_get items k ≡ Some item) × (item.fact ≡ fact))
+      → EachFollowsByReason case.store.nodes (theory_of case) part ranks items → AreLinksWithin (length case.store.roles) (facts_of items)
+  links_within part ranks items stand follows k a r b at =
+      let found = stand k (Link a r b) at in
       let item = found.0 in
       given_leads (IsNamedBy (theory_of case) part ranks item.reason.source) (IsEarlier items k item.reason.first) (IsEarlier items k item.reason.second)
       (named_leads part ranks item.reason.source) item.reason.rule a r b

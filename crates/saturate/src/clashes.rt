@@ -1,7 +1,6 @@
 //! Facts that leave a node empty that must have a member.
 
-ghost use Rattle.std.specs.Prelude.{◌≡◌, ◌↔◌, ◌<◌, IsTrue, Contains, MatchOption, length};
-ghost use Rattle.case_file.specs.Cases.{IsMustHave};
+ghost use Rattle.std.specs.Prelude.{◌≡◌, ◌↔◌, ◌<◌, IsTrue, MatchOption, length};
 ghost use Rattle.rule_steps.specs.Growing.{facts_in};
 ghost use Rattle.saturate.specs.Inside.Clashes.{IsClash, HasClashAt, AreLiveWithin, AreLiveNodes, IsFirstClash};
 
@@ -9,29 +8,12 @@ use case_file::Case;
 use fact_layers::Layers;
 use fact_table::{Fact, Facts, FactsByPlace};
 
-// Whether a node is excused.
-fn is_excused(case: &Case, node: u32) -> bool
-    ensures { IsTrue result ↔ Contains case.now.excused node }
-{
-    case.excused().contains(&node)
-}
-
-// Whether a node must have a member.
-fn is_must_have(case: &Case, node: u32) -> bool
-    ensures { IsTrue result ↔ IsMustHave case.now node }
-{
-    match node.checked_sub(2) {
-        Some(class) => class < case.classes() && !is_excused(case, node),
-        None => node == 0,
-    }
-}
-
 // Whether a fact puts a node that must have a member within `owl:Nothing`.
 fn is_clash(case: &Case, fact: Fact) -> bool
     ensures { IsTrue result ↔ IsClash case.now fact }
 {
     match fact {
-        Fact::Sub(node, 1) => is_must_have(case, node),
+        Fact::Sub(node, 1) => case.is_must_have(node),
         _ => false,
     }
 }
@@ -58,7 +40,7 @@ pub fn first_clash(case: &Case, layers: &Layers) -> Option<(u32, usize)>
         (λ found. IsFirstClash case.now (facts_in layers.now) found.0 found.1) }
 {
     for node in 0..case.store().nodes() {
-        if !is_must_have(case, node) {
+        if !case.is_must_have(node) {
             continue;
         }
         match layers.find(Fact::Sub(node, 1)) {

@@ -6,9 +6,9 @@ ghost use Rattle.rule_steps.specs.Counted.{IsCounted, nodes_of};
 ghost use Rattle.rule_steps.specs.Growing.{facts_in, AreDerived, HasGrown};
 ghost use Rattle.rule_steps.specs.Answering.{AreClosedBelow, AreBegunBelow};
 ghost use Rattle.saturate.specs.Inside.Clashes.{HasClashAt, AreLiveWithin};
+ghost use Rattle.saturate.specs.Inside.Saturated.{AreAnsweredWithin, IsCaughtUp, HasCaughtUpOrClash};
 
 use crate::clashes::clash_from;
-use case_file::Case;
 use fact_layers::Layers;
 use fact_table::FactsByPlace;
 use rule_steps::{Grounds, an_answered_place_is_closed, answer, begin, growing_takes_nothing_away};
@@ -49,32 +49,26 @@ pub fn close(grounds: &Grounds, layers: &mut Layers, from: usize) -> Result<(), 
 }
 
 /// Answers each place from one on, until the list ends or a node is empty that must have a member.
-/// In the second case the place of the fact that says so is answered.
 pub fn close_until_clash(
     grounds: &Grounds,
     layers: &mut Layers,
-    case: &Case,
     from: usize,
 ) -> Result<Option<usize>, AllocError>
     requires within { from ≤ length (facts_in layers.old) }
     requires derived { AreDerived grounds.now (whole layers.old) }
-    requires closed { AreClosedBelow (nodes_of grounds.now) (IsCounted grounds.now) from
-        (facts_in layers.old) }
-    requires live { AreLiveWithin case.now 0 from (facts_in layers.old) }
+    requires live { AreLiveWithin grounds.now.case 0 from (facts_in layers.old) }
     ensures grown { HasGrown grounds.now layers.old layers.new }
-    ensures closed { IfOk result (λ found. MatchOption found
-        (AreClosedBelow (nodes_of grounds.now) (IsCounted grounds.now)
-        (length (facts_in layers.new)) (facts_in layers.new))
-        (HasClashAt case.now (facts_in layers.new))) }
+    ensures answered { IfOk result (λ found. MatchOption found
+        (AreAnsweredWithin grounds.now from (length (facts_in layers.new)) (facts_in layers.new))
+        (HasClashAt grounds.now.case (facts_in layers.new))) }
     ensures live { IfOk result (λ found. MatchOption found
-        (AreLiveWithin case.now 0 (length (facts_in layers.new)) (facts_in layers.new))
-        (HasClashAt case.now (facts_in layers.new))) }
+        (AreLiveWithin grounds.now.case 0 (length (facts_in layers.new)) (facts_in layers.new))
+        (HasClashAt grounds.now.case (facts_in layers.new))) }
 {
-    an_answered_place_is_closed();
     growing_takes_nothing_away();
     let mut seen = from;
     for place in from..usize::MAX {
-        match clash_from(case, layers, seen) {
+        match clash_from(grounds.case(), layers, seen) {
             Some(clash) => return Ok(Some(clash)),
             None => {}
         }
@@ -85,4 +79,28 @@ pub fn close_until_clash(
         answer(grounds, layers, place)?;
     }
     Err(AllocError)
+}
+
+/// Adds whatever follows for the first nodes, one node after the other, until a class is empty that
+/// must have a member.
+pub fn begin_until_clash(
+    grounds: &Grounds,
+    layers: &mut Layers,
+) -> Result<Option<usize>, AllocError>
+    requires { IsCaughtUp grounds.now layers.old }
+    ensures grown { HasGrown grounds.now layers.old layers.new }
+    ensures begun { IfOk result (HasCaughtUpOrClash grounds.now layers.new
+        (AreBegunBelow (nodes_of grounds.now) (IsCounted grounds.now)
+        (length (nodes_of grounds.now)) (facts_in layers.new))) }
+{
+    growing_takes_nothing_away();
+    for node in 0..grounds.store().nodes() {
+        let from = layers.len();
+        begin(grounds, layers, node)?;
+        match close_until_clash(grounds, layers, from)? {
+            Some(clash) => return Ok(Some(clash)),
+            None => {}
+        }
+    }
+    Ok(None)
 }

@@ -15,15 +15,15 @@ ghost use Rattle.saturate.specs.Inside.Saturated.{table_of};
 use crate::StartFault;
 use crate::clashes::first_clash;
 use crate::laws::facts_show_emptiness;
-use crate::saturation::{begun, saturate_all, saturate_until_clash};
+use crate::saturation::{begun, saturate_all, saturate_by_nodes};
 use crate::tables::frozen;
 use case_file::{Case, cases_have_nodes};
 use case_tables::{Tables, build_tables};
 use closed_model::{ClosedTable, a_closed_table_shows_coherence, closed_facts_show_members};
 use derivation::{Derivation, reasons_name_earlier_places, trace, traces_are_good};
 use el_logic::{Numbers, Part};
-use fact_layers::Layers;
-use rule_steps::Grounds;
+use fact_layers::{Base, Layers};
+use rule_steps::{Grounds, facts_stand_where_their_items_do};
 use std::alloc::{AllocError, Global};
 use std::sync::Arc;
 
@@ -37,8 +37,8 @@ fn coherent_facts(alloc: Global, case: &Case, tables: &Tables) -> Result<Option<
     let _case = case.store();
     let none: &[u32] = &[];
     let grounds = Grounds::new(case, tables, Part::Both, none);
-    let mut layers = begun(alloc, &grounds)?;
-    match saturate_until_clash(&grounds, &mut layers, case, 0)? {
+    let mut layers = Layers::over(alloc, Base::empty(alloc)?)?;
+    match saturate_by_nodes(&grounds, &mut layers)? {
         None => Ok(Some(layers)),
         Some(_) => Ok(None),
     }
@@ -60,6 +60,7 @@ fn first_empty(
     cases_have_nodes();
     traces_are_good();
     reasons_name_earlier_places();
+    facts_stand_where_their_items_do();
     let _case = case.store();
     let none: &[u32] = &[];
     let grounds = Grounds::new(case, tables, part, none);

@@ -8,37 +8,37 @@ ghost use Rattle.saturate.specs.Inside.Saturated.{AddsRanks};
 
 use crate::Verdict;
 use crate::laws::facts_show_emptiness;
-use crate::rows::enter_rows;
-use crate::saturation::saturate_until_clash;
+use crate::saturation::saturate_rows;
 use crate::tables::frozen;
 use closed_model::{ClosedTable, a_closed_table_shows_coherence};
 use derivation::{reasons_name_earlier_places, trace, traces_are_good};
 use el_logic::{Numbers, Part};
 use fact_layers::Layers;
-use rule_steps::Grounds;
+use rule_steps::{Grounds, facts_stand_where_their_items_do};
 use std::alloc::{AllocError, Global};
 
-// The verdict on ranks that add to those of a table, the first of the added ones given.
+// The verdict on ranks that add more to those of a table, the first of these given.
 fn test_from(
     alloc: Global,
     snapshot: &ClosedTable,
     ranks: &[u32],
     first: u32,
+    more: &[u32],
 ) -> Result<Verdict, AllocError>
     requires ranks { AreRanksOf snapshot.now.case ranks.now }
-    requires added { AddsRanks snapshot.now.ranks first ranks.now }
+    requires added { AddsRanks snapshot.now.ranks first more.now ranks.now }
     ensures { IfOk result (IsVerdict snapshot.now.case ranks.now) }
 {
     a_closed_table_shows_coherence();
     facts_show_emptiness();
     traces_are_good();
     reasons_name_earlier_places();
+    facts_stand_where_their_items_do();
     let case = snapshot.case();
     let _case = case.store();
     let grounds = Grounds::new(case, snapshot.tables(), Part::Both, ranks);
     let mut layers = Layers::over(alloc, snapshot.base().share(alloc)?)?;
-    let from = enter_rows(&grounds, snapshot, ranks, &mut layers, first)?;
-    match saturate_until_clash(&grounds, &mut layers, case, from)? {
+    match saturate_rows(&grounds, &mut layers, snapshot, first, more)? {
         Some(clash) => Ok(Verdict::No(trace(alloc, &layers, clash)?)),
         None => {
             let ranks = Numbers::from_slice(alloc, ranks)?;
@@ -89,7 +89,7 @@ pub fn test_block(
         None => unchanged(alloc, snapshot),
         Some(first) => {
             let all = followed_by(alloc, snapshot.ranks(), ranks)?;
-            test_from(alloc, snapshot, all.as_slice(), first)
+            test_from(alloc, snapshot, all.as_slice(), first, ranks)
         }
     }
 }

@@ -6,11 +6,11 @@ use el_logic::Part;
 use fact_table::{Fact, Rule, Source};
 use std::test::Fail;
 
-const DISJOINT: &str = "Prefix(:=<http://l/>) Ontology(DisjointClasses(:A :B))";
+pub(crate) const DISJOINT: &str = "Prefix(:=<http://l/>) Ontology(DisjointClasses(:A :B))";
 
-const BELOW: &str = "Prefix(:=<http://r/>) Ontology(SubClassOf(:X :Y))";
+pub(crate) const BELOW: &str = "Prefix(:=<http://r/>) Ontology(SubClassOf(:X :Y))";
 
-const ROWS: &str = "l:A\tskos:exactMatch\tr:X\t0.9
+pub(crate) const ROWS: &str = "l:A\tskos:exactMatch\tr:X\t0.9
 l:B\tskos:exactMatch\tr:Y\t0.8
 l:B\tskos:broadMatch\tr:Y\t0.7
 ";
@@ -22,7 +22,7 @@ const SECOND_ROW: Source = Source::Row { rank: 1, number: 2 };
 const NONE: Source = Source::Nothing;
 
 // A is below X by the first row, X below Y, Y below B by the second row; but A and B are disjoint.
-pub const GIVEN: [Line; 5] = [
+pub(crate) const GIVEN: [Line; 5] = [
     (Fact::Sub(2, 2), Rule::Itself, 0, 0, NONE),
     (Fact::Sub(2, 4), Rule::Incl, 1, 0, FIRST_ROW),
     (Fact::Sub(2, 5), Rule::Incl, 2, 0, Source::Right(1)),

@@ -1,7 +1,7 @@
 //! Cases that are made from texts, and derivations over them.
 
 ghost use Rattle.std.specs.Prelude.{IsTrue};
-ghost use Rattle.derivation.specs.Steps.{AreRanks};
+ghost use Rattle.case_file.specs.Cases.{AreRanksOf};
 
 use case_file::Case;
 use case_load::{LoadFault, Loaded, assemble};
@@ -13,10 +13,10 @@ use std::alloc::{AllocError, Global};
 use std::test::Fail;
 use text_names::Limits;
 
-pub const HEADER: &str = "#curie_map:\n#  l: http://l/\n#  r: http://r/\n\
+pub(crate) const HEADER: &str = "#curie_map:\n#  l: http://l/\n#  r: http://r/\n\
 subject_id\tpredicate_id\tobject_id\tconfidence\n";
 
-pub fn made(alloc: Global, left: &str, right: &str, map: &str) -> Result<Loaded, LoadFault> {
+pub(crate) fn made(alloc: Global, left: &str, right: &str, map: &str) -> Result<Loaded, LoadFault> {
     let limits = Limits::standard();
     let left = left.as_bytes();
     let right = right.as_bytes();
@@ -31,8 +31,8 @@ pub fn made(alloc: Global, left: &str, right: &str, map: &str) -> Result<Loaded,
 }
 
 // The ranks ascend and are those of rows.
-fn are_ranks(case: &Case, ranks: &[u32]) -> bool
-    ensures { IsTrue result → AreRanks case.now ranks.now }
+pub(crate) fn are_ranks(case: &Case, ranks: &[u32]) -> bool
+    ensures { IsTrue result → AreRanksOf case.now ranks.now }
 {
     let mut least = 0;
     for rank in ranks {
@@ -45,9 +45,9 @@ fn are_ranks(case: &Case, ranks: &[u32]) -> bool
 }
 
 /// A step as the tables have it: its fact, its rule, its premises and its source.
-pub type Line = (Fact, Rule, usize, usize, Source);
+pub(crate) type Line = (Fact, Rule, usize, usize, Source);
 
-pub fn steps(alloc: Global, lines: &[Line]) -> Result<Derivation, AllocError> {
+pub(crate) fn steps(alloc: Global, lines: &[Line]) -> Result<Derivation, AllocError> {
     let mut derivation = Derivation::new(alloc);
     for line in lines {
         derivation.push(Step {
@@ -61,7 +61,7 @@ pub fn steps(alloc: Global, lines: &[Line]) -> Result<Derivation, AllocError> {
     Ok(derivation)
 }
 
-pub fn checked(
+pub(crate) fn checked(
     alloc: Global,
     case: &Case,
     part: Part,

@@ -11,12 +11,14 @@ use Rattle.accuse_core.specs.declared.mark.Mark.TheVariants.{Kept}
 use Rattle.accuse_core.specs.declared.event.Event.{Event}
 use Rattle.accuse_core.specs.declared.journal.Entry.{Entry}
 use Rattle.accuse_core.specs.Marks.{is_decided, is_yes_over, kept_unless_removed, with_kept, with_removed, with_note, with_block, block_of, settled, mark_at, kept_of, number_kept, front_of}
-use Rattle.accuse_core.specs.Events.{outcome, IsAllowed}
+use Rattle.accuse_core.specs.Events.{outcome, on_take, on_take_front, IsAllowed}
 use Rattle.accuse_core.specs.Journal.{replayed, IsJournal}
 use Rattle.accuse_core.specs.Sound.{AreKeptBeforeFront}
 
--- what the kept ranks are after each change
+-- that asking leaves the marks, and what the kept ranks are after each change
 pub record KeptLaws : Type 0 where
+  pub asking : (marks : List Mark) (rank : ℕ) → (on_take marks rank).marks ≡ marks
+  pub asking_front : (marks : List Mark) → (on_take_front marks).marks ≡ marks
   pub front : (marks : List Mark) → AreKeptBeforeFront marks → front_of marks < length marks
       → kept_of (with_kept marks (front_of marks)) ≡ kept_of marks ++ front_of marks ∷ []
   pub block : (marks : List Mark) (count : ℕ) → AreKeptBeforeFront marks

@@ -1,5 +1,5 @@
 -- A turn: the rank at the front is taken, tested, and decided.
-use Rattle.std.specs.Prelude.{◌≡◌, ℕ, ◌≤◌, ◌<◌, length}
+use Rattle.std.specs.Prelude.{◌≡◌, ℕ, ◌≤◌, ◌<◌}
 use Rattle.accuse_core.specs.Marks.{front_of, kept_of, number_kept}
 use Rattle.commit_book.specs.declared.answers.Taken.{Taken}
 use Rattle.commit_book.specs.Books.{BookView, IsTableFor, ranks_of}

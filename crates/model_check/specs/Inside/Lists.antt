@@ -1,6 +1,6 @@
 -- What the code looks for.
-use Rattle.std.specs.Prelude.{ℕ, Bool, nat_eq, List, Option, Some, None, All}
-use Rattle.std.specs.List.{list_any, flat_map}
+use Rattle.std.specs.Prelude.{ℕ, List, Option, Some, None, All}
+use Rattle.std.specs.List.{flat_map}
 use Rattle.el_logic.specs.declared.types.Part.{Part}
 use Rattle.el_logic.specs.declared.types.Axiom.{Axiom}
 use Rattle.el_logic.specs.declared.types.Interp.{Interp}
@@ -12,10 +12,6 @@ use Rattle.case_tables.specs.Keyed.{numbered_from}
 use Rattle.model_check.specs.declared.check.Origin.{Origin}
 use Rattle.model_check.specs.declared.check.Origin.TheVariants as from
 use Rattle.model_check.specs.Faults.{IsFirstFailing, IsFirstEmpty, row_ranked, sourced_axioms}
-
--- the numbers have this one
-abbrev pub has_number : List ℕ → ℕ → Bool
-has_number numbers x = list_any (nat_eq x) numbers
 
 -- the axiom there with this number
 abbrev pub source_at : Origin → ℕ → Source

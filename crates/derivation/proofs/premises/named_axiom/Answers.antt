@@ -23,7 +23,7 @@ returns-in-Right c =
 
 pub over_of-requires : goal.over_of-requires
 over_of-requires c =
-    All-contains (λ rank. rank < length c.args.case.now.order) c.args.ranks.now c.in-Row.rank c.requires.within
+    All-contains (λ rank. rank < length c.args.case.now.order) c.args.ranks.now c.in-Row.rank c.requires.below
     (row_ranks c.args.part c.args.ranks.now c.in-Row.rank c.in-Row.number
     (subst (IsSourceOf c.args.part c.args.ranks.now) c.in-Row.is (c.is_source.ensures.0 c.if-not-is_source.false)))
 

@@ -1,12 +1,10 @@
-use Rattle.std.proofs.Common.{◌≡◌, ◌∙◌, ◌+◌, ◌<◌, ℕ, List, [], length, ap, sym, subst, arith, true≢false}
+use Rattle.std.proofs.Common.{◌≡◌, ◌∙◌, ◌+◌, ◌<◌, ℕ, List, [], length, Contains, ap, sym, subst, arith, true≢false}
 use Rattle.std.specs.Prelude.{slice_index_or}
 use Rattle.std.proofs.lemmas.List.{get_or_read}
 use Rattle.el_logic.specs.Meaning.{members_of}
 use Rattle.concept_store.specs.Order.{AreInOrder}
 use Rattle.concept_store.specs.Roles.{Numbered, store_of}
 use Rattle.case_file.specs.Cases.{CaseView}
-use Rattle.model_check.specs.Inside.Lists.{has_number}
-use Rattle.model_check.proofs.SearchLaws.{found, finds}
 use Rattle.model_check.proofs.FailLaws.{some_of, is_first_empty, none_empty, has_more, class_fits}
 use Rattle.model_check.proofs.check.first_empty.Goals as goal
 
@@ -35,7 +33,7 @@ pub loop-class-preserved : goal.loop-class-preserved
 loop-class-preserved c =
     let class = c.loop-class.class in
     has_more c.args.case.now c.args.i.now class c.loop-class.invariant (λ kept.
-    absurd (kept (found c.args.case.now.excused (class + 2) (ap (λ numbers. has_number numbers (class + 2)) (sym c.excused.ensures) ∙ sym c.has_number.ensures ∙ c.if-has_number.true))))
+    absurd (kept (subst (λ (numbers : List ℕ). Contains numbers (class + 2)) c.excused.ensures (c.has_number.ensures.there.0 c.if-has_number.true))))
 
 pub returns-in-loop-class : goal.returns-in-loop-class
 returns-in-loop-class c =
@@ -47,7 +45,7 @@ returns-in-loop-class c =
     get_or_read lists class c.index-classes-class.result within c.index-classes-class.is [] ∙ ap (λ (ls : List (List ℕ)). slice_index_or ls class []) c.as_slice-classes.ensures in
     is_first_empty c.args.case.now c.args.i.now class c.requires (omega (arith, c.loop-class-test.true, c.classes-class-end.ensures))
     (sym list_is ∙ c.is_empty.ensures.0 c.if-not-is_empty.false)
-    (λ there. true≢false (sym (finds c.args.case.now.excused (class + 2) there) ∙ ap (λ numbers. has_number numbers (class + 2)) (sym c.excused.ensures) ∙ sym c.has_number.ensures ∙ c.if-has_number.false))
+    (λ there. true≢false (sym (c.has_number.ensures.there.1 (subst (λ (numbers : List ℕ). Contains numbers (class + 2)) (sym c.excused.ensures) there)) ∙ c.if-has_number.false))
     c.loop-class.invariant
 
 pub returns : goal.returns

@@ -19,13 +19,13 @@ returns-then-not-holds c =
     subst (IsFirstFailing c.args.i.now (numbered_from name 1 axioms)) (sym is)
     (fails_at c.args.i.now name 1 axioms index c.axiom-item.result c.loop-axiom.invariant.hold
     (slice_get_read axioms (length axioms) index c.axiom-item.result refl c.loop-axiom-test.true c.axiom-item.is)
-    (λ holds. true≢false (sym (c.holds.ensures.1 holds) ∙ c.if-not-holds.true)))
+    (λ holds. true≢false (sym (c.in_ok-holds.ensures.1 holds) ∙ c.if-not-holds.true)))
 
 pub loop-axiom-preserved : goal.loop-axiom-preserved
 loop-axiom-preserved c = record {
   number = ap (λ n. n + 1) c.loop-axiom.invariant.number;
   hold = All-more (Holds c.args.i.now) c.args.axioms.now c.loop-axiom.axiom-index c.axiom-item.result c.loop-axiom-test.true c.loop-axiom.invariant.hold
-      (subst (Holds c.args.i.now) c.axiom-item.is (c.holds.ensures.0 c.if-not-holds.false));
+      (subst (Holds c.args.i.now) c.axiom-item.is (c.in_ok-holds.ensures.0 c.if-not-holds.false));
 }
 
 pub returns : goal.returns

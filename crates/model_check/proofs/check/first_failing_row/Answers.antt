@@ -8,6 +8,8 @@ use Rattle.fact_table.specs.declared.types.Source.{Source}
 use Rattle.case_file.specs.Incoherence.{axioms_of_ranks}
 use Rattle.case_tables.specs.Keyed.{numbered_from}
 use Rattle.model_check.specs.Faults.{IsFirstFailing}
+use Rattle.model_check.specs.declared.check.Origin.TheVariants as from
+use Rattle.model_check.specs.Inside.Lists.{FindsFailing}
 use Rattle.model_check.proofs.FailLaws.{row_fails, row_is, row_few}
 use Rattle.model_check.proofs.check.first_failing_row.Goals as goal
 
@@ -27,8 +29,10 @@ returns-in-Some c =
     let index = c.loop-rank.rank-index in
     let rank = get_or ranks index 0 in
     let below = All-get_or (λ r. r < length case.order) ranks index 0 c.loop-rank-test.true c.requires.ranks in
+    let axioms = c.as_slice.result.now in
+    let fails = subst (FindsFailing c.args.i.now (from.Row rank) axioms) c.in-Some.is c.in_ok-failing.ensures in
     row_fails c.args.i.now case ranks index rank c.in-Some.source c.loop-rank.invariant (slice_get-get_or ranks index 0 c.loop-rank-test.true)
-    (subst (λ (axioms : List Axiom). IsFirstFailing c.args.i.now (numbered_from (Source.Row rank) 1 axioms) c.in-Some.source) (c.as_slice.ensures ∙ c.axioms_of.ensures ∙ row_is case rank below) c.in-Some.ensures)
+    (subst (λ (axioms : List Axiom). IsFirstFailing c.args.i.now (numbered_from (Source.Row rank) 1 axioms) c.in-Some.source) (c.as_slice.ensures ∙ c.axioms_of.ensures ∙ row_is case rank below) fails)
 
 pub returns : goal.returns
 returns c =

@@ -1,5 +1,6 @@
-use Rattle.rule_steps.specs.Counted.{IsCounted}
-use Rattle.rule_steps.proofs.GrowthLaws.{grown_none, grown_more, closed_grown, begun_grown}
+use Rattle.std.specs.Prelude.{Some}
+use Rattle.rule_steps.specs.Counted.{IsCounted, IsCountedSince}
+use Rattle.rule_steps.proofs.GrowthLaws.{grown_none, grown_more, closed_grown, begun_grown, answered_grown, inclusions_grown}
 use Rattle.rule_steps.proofs.laws.growing_takes_nothing_away.Goals as goal
 
 pub returns-clause-none : goal.returns-clause-none
@@ -13,3 +14,9 @@ returns-clause-closed c grounds old new p = closed_grown grounds (IsCounted grou
 
 pub returns-clause-begun : goal.returns-clause-begun
 returns-clause-begun c grounds old new n = begun_grown grounds (IsCounted grounds) old new n
+
+pub returns-clause-answered : goal.returns-clause-answered
+returns-clause-answered c grounds old new p = answered_grown grounds (IsCounted grounds) old new p
+
+pub returns-clause-by_inclusions : goal.returns-clause-by_inclusions
+returns-clause-by_inclusions c grounds old new first p = inclusions_grown grounds (IsCountedSince (Some first) grounds) old new p

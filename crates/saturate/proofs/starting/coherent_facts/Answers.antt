@@ -11,17 +11,17 @@ use Rattle.saturate.proofs.starting.coherent_facts.Goals as goal
 pub returns-in-None : goal.returns-in-None
 returns-in-None c =
     let grounds = c.new-grounds.result in
-    let layers = c.saturate_until_clash.new.layers in
-    live_table grounds c.args.case.now c.args.tables.now [] layers c.new-grounds.ensures c.requires (no_ranks c.args.case.now [] refl) c.saturate_until_clash.ensures.derived
-    (at_none c.in_ok-saturate_until_clash.field-0 (IsLive grounds layers) (HasClashAt grounds.case (facts_in layers)) c.in-None.is c.in_ok-saturate_until_clash.ensures.decided)
+    let layers = c.saturate_by_nodes.new.layers in
+    live_table grounds c.args.case.now c.args.tables.now [] layers c.new-grounds.ensures c.requires (no_ranks c.args.case.now [] refl) c.saturate_by_nodes.ensures.derived
+    (at_none c.in_ok-saturate_by_nodes.field-0 (IsLive grounds layers) (HasClashAt grounds.case (facts_in layers)) c.in-None.is c.in_ok-saturate_by_nodes.ensures.decided)
 
 pub returns-in-Some : goal.returns-in-Some
 returns-in-Some c =
     let grounds = c.new-grounds.result in
     let case = c.args.case.now in
-    let layers = c.saturate_until_clash.new.layers in
-    let clash = at_some c.in_ok-saturate_until_clash.field-0 c.in-Some.field-0 (IsLive grounds layers) (HasClashAt grounds.case (facts_in layers)) c.in-Some.is c.in_ok-saturate_until_clash.ensures.decided in
-    let follows = follows_at grounds case Part.Both [] (whole layers) c.new-grounds.ensures c.saturate_until_clash.ensures.derived in
+    let layers = c.saturate_by_nodes.new.layers in
+    let clash = at_some c.in_ok-saturate_by_nodes.field-0 c.in-Some.field-0 (IsLive grounds layers) (HasClashAt grounds.case (facts_in layers)) c.in-Some.is c.in_ok-saturate_by_nodes.ensures.decided in
+    let follows = follows_at grounds case Part.Both [] (whole layers) c.new-grounds.ensures c.saturate_by_nodes.ensures.derived in
     clash_incoherent case Part.Both [] (facts_in layers) c.in-Some.field-0
     (λ node must there. c.facts_show_emptiness.ensures case Part.Both [] (whole layers) node c.store-case.ensures.case (All-nil (λ (rank : ℕ). rank < length case.order)) follows must there)
     (node_of_clash grounds case Part.Both [] (facts_in layers) c.in-Some.field-0 c.new-grounds.ensures clash)

@@ -41,4 +41,5 @@ returns c =
     (λ must there. c.facts_show_emptiness.ensures case c.args.part [] items node is_case (All-nil (λ (rank : ℕ). rank < length case.order)) follows must there)
     c.in-Some.ensures
     (good_trace case c.args.part [] items place node steps (c.traces_are_good.ensures.good case c.args.part [] items place steps follows c.in_ok-derivation.ensures)
-    (λ item at. c.traces_are_good.ensures.goal items place steps item c.in_ok-derivation.ensures at) c.in-Some.ensures.must_have c.in-Some.ensures.at)
+    (λ item at. c.traces_are_good.ensures.goal items place steps item c.in_ok-derivation.ensures at) c.in-Some.ensures.must_have
+    (c.facts_stand_where_their_items_do.ensures items place (Sub node 1) c.in-Some.ensures.at))

@@ -17,4 +17,4 @@ test_from-requires-clause-added c =
     let olds = c.args.snapshot.now.ranks in
     let more = c.args.ranks.now in
     let all = c.as_slice.ensures.value ∙ c.in_ok-all-in-Some.ensures ∙ ap (λ (xs : List ℕ). xs ++ more) c.ranks.ensures in
-    subst (AddsRanks olds c.in-Some.first) (sym all) (ranks_added olds more c.in-Some.first c.requires.ascending c.in-Some.ensures)
+    subst (AddsRanks olds c.in-Some.first more) (sym all) (ranks_added olds more c.in-Some.first c.requires.ascending c.in-Some.ensures c.requires.after)

@@ -1,0 +1,231 @@
+#!/usr/bin/env python3
+"""Makes cases of 1,000, 10,000 and 40,000 classes a side, saturates them, tests their rows down the ranks, and runs a
+plain unproved program on the same files in the same run: `saturation.py YARDSTICK [CLASSES ..]`.
+
+YARDSTICK is a folder with `make_case.py CLASSES SEED FOLDER`, which writes `left.ofn`, `right.ofn` and `map.sssom.tsv`,
+and with `greedy.cpp`, which decides the same rows (`greedy --closed LEFT RIGHT MAP`, with all facts that a closed table
+holds) and says on standard error how many seconds it took so far, and how many facts it has. Both programs run by turns.
+Of three runs each, the least seconds and the largest memory count. This program's is proved and built in a temporary
+repository first, which is not measured.
+"""
+
+import os
+import pathlib
+import re
+import shutil
+import subprocess
+import sys
+import tempfile
+
+from driver import REPOSITORY, libraries, with_those_below
+
+DRIVER = """//! Reads a case, starts it, and tests its rows down the ranks.
+#![tactic(auto)]
+
+ghost use Rattle.std.specs.Prelude.{◌<◌, All, IsTrue};
+
+use anyhow::Result;
+use case_load::{LoadFault, Loaded, assemble};
+use closed_model::ClosedTable;
+use fact_table::FactsByPlace;
+use ofn_axiom::Mode;
+use saturate::{StartFault, Verdict, start, test};
+use std::alloc::{AllocError, Global};
+use std::time::Instant;
+use std::{env, fs};
+use text_names::Limits;
+
+// The most kilobytes that the process has held so far.
+fn peak(rt: &HostRuntime) -> Result<u32> {
+    let status = fs::read_to_string(rt, "/proc/self/status")?;
+    for line in status.as_str().lines() {
+        let Some(rest) = line.strip_prefix("VmHWM:") else {
+            continue;
+        };
+        let Some(number) = rest.trim().split(' ').next() else {
+            continue;
+        };
+        return Ok(number.parse::<u32>()?);
+    }
+    Ok(0)
+}
+
+fn made(alloc: Global, left: &[u8], right: &[u8], map: &[u8]) -> Result<Loaded, LoadFault> {
+    let limits = Limits::standard();
+    if left.len() >= 0x8000_0000 || right.len() >= 0x8000_0000 || map.len() >= 0x8000_0000 {
+        return Err(LoadFault::OutOfMemory);
+    }
+    if limits.depth > 256 {
+        return Err(LoadFault::OutOfMemory);
+    }
+    assemble(alloc, left, right, map, Mode::Strict, &limits)
+}
+
+// All of these ranks are below one.
+fn are_before(ranks: &[u32], rank: u32) -> bool
+    ensures { IsTrue result → All (λ old. old < rank) ranks.now }
+{
+    ranks.iter().all(|old| *old < rank)
+}
+
+// The verdict on one more rank.
+fn tested(alloc: Global, table: &ClosedTable, rank: u32) -> Result<Verdict, AllocError> {
+    if rank >= table.case().ranks() {
+        return Err(AllocError);
+    }
+    if !are_before(table.ranks(), rank) {
+        return Err(AllocError);
+    }
+    test(alloc, table, rank)
+}
+
+// The table of the ranks that are kept.
+fn chosen(alloc: Global, first: ClosedTable) -> Result<ClosedTable, AllocError> {
+    let mut table = first;
+    for rank in 0..table.case().ranks() {
+        match tested(alloc, &table, rank)? {
+            Verdict::Yes(next) => table = next,
+            Verdict::No(_) => {}
+        }
+    }
+    Ok(table)
+}
+
+fn print(rt: &HostRuntime, what: &str, begin: Instant, count: usize) -> Result<()> {
+    let took = begin.elapsed(rt)?.as_micros();
+    let most = peak(rt)?;
+    println!(rt; "{what} {took} {most} {count}")?;
+    Ok(())
+}
+
+fn run(rt: &HostRuntime, left: &str, right: &str, map: &str) -> Result<()> {
+    let alloc = rt.alloc();
+    let begin = Instant::now(rt)?;
+    let left = fs::read(rt, left)?;
+    let right = fs::read(rt, right)?;
+    let map = fs::read(rt, map)?;
+    let loaded = made(alloc, left.as_slice(), right.as_slice(), map.as_slice())?;
+    print(rt, "read", begin, loaded.case.store().nodes() as usize)?;
+    let begin = Instant::now(rt)?;
+    let table = match start(alloc, &loaded.case) {
+        Ok(table) => table,
+        Err(fault) => return Err(fault.into()),
+    };
+    print(rt, "start", begin, table.base().len())?;
+    let begin = Instant::now(rt)?;
+    let table = chosen(alloc, table)?;
+    print(rt, "test", begin, table.base().len())?;
+    println!(rt; "kept 0 0 {}", table.ranks().len())?;
+    Ok(())
+}
+
+fn main(rt: HostRuntime) -> Result<()> {
+    let mut words = env::args(&rt)?;
+    let _ = words.next();
+    let Some(left) = words.next() else {
+        return Ok(());
+    };
+    let Some(right) = words.next() else {
+        return Ok(());
+    };
+    let Some(map) = words.next() else {
+        return Ok(());
+    };
+    run(&rt, left.as_str(), right.as_str(), map.as_str())
+}
+"""
+
+CRATES = ["saturate", "case_load", "closed_model", "case_file", "fact_layers", "fact_table", "ofn_axiom", "text_names"]
+NAME = "bench_saturation"
+RUNS = 3
+
+
+def build(root):
+    """The program, built in a repository of its own."""
+    all_libraries = libraries()
+    used = with_those_below(CRATES, all_libraries)
+    for crate in used:
+        shutil.copytree(REPOSITORY / "crates" / crate, root / "crates" / crate, ignore=shutil.ignore_patterns("out"))
+    (root / "crates" / NAME / "src").mkdir(parents=True)
+    (root / "crates" / NAME / "src" / "main.rt").write_text(DRIVER)
+    lines = [f"{crate}: {' '.join(all_libraries[crate])}" for crate in used]
+    lines.append(f"{NAME}: {' '.join(CRATES)} anyhow")
+    (root / "crates.txt").write_text("\n".join(lines) + "\n")
+    run = subprocess.run(["rt", "run", "--jobs", "2"], cwd=root / "crates" / NAME, capture_output=True, text=True)
+    program = root / "crates" / NAME / "out" / NAME
+    if not program.exists():
+        sys.exit(run.stdout + run.stderr)
+    return program
+
+
+def measured(words):
+    """What a program printed on both outputs, and the most bytes that it held."""
+    run = subprocess.Popen(words, stdout=subprocess.PIPE, stderr=subprocess.PIPE, text=True)
+    out, err = run.stdout.read(), run.stderr.read()
+    _, status, usage = os.wait4(run.pid, 0)
+    if os.waitstatus_to_exitcode(status) != 0:
+        sys.exit(out + err)
+    return out, err, usage.ru_maxrss * 1024
+
+
+def ours(program, files):
+    """Seconds, facts and peak memory of reading, starting and testing."""
+    out, _, _ = measured([program, *files])
+    rows = [line.split() for line in out.splitlines()]
+    return {what: (int(took) / 1e6, int(count), int(peak) * 1024) for what, took, peak, count in rows}
+
+
+def theirs(program, files):
+    """The same of the plain program. Its seconds count from its start."""
+    _, err, peak = measured([program, "--closed", *files])
+    times = {what: float(time) for what, time in re.findall(r"^(\w+) +([\d.]+) s", err, re.MULTILINE)}
+    facts = [int(count) for count in re.findall(r"facts (\d+)", err)]
+    return {
+        "read": (times["read"], 0, peak),
+        "start": (times["base"] - times["read"], facts[0], peak),
+        "test": (times["rows"] - times["base"], facts[-1], peak),
+    }
+
+
+def best(runs):
+    return {what: (min(run[what][0] for run in runs), runs[0][what][1], max(run[what][2] for run in runs)) for what in runs[0]}
+
+
+def told(name, took):
+    parts = [f"{what} {took[what][0]:.2f} s" for what in ("read", "start", "test")]
+    whole = sum(took[what][0] for what in ("read", "start", "test"))
+    facts = f"{took['start'][1]} and then {took['test'][1]} facts"
+    return f"  {name}: {', '.join(parts)}, together {whole:.2f} s; {facts}; peak {took['test'][2] / 1e6:.0f} MB"
+
+
+def ratio(one, other):
+    seconds = [sum(took[what][0] for what in ("read", "start", "test")) for took in (one, other)]
+    tests = [sum(took[what][0] for what in ("start", "test")) for took in (one, other)]
+    memory = one["test"][2] / other["test"][2]
+    return f"  ratio: {seconds[0] / seconds[1]:.2f} of seconds, {tests[0] / tests[1]:.2f} without reading, {memory:.2f} of memory"
+
+
+def compare(program, plain, case):
+    files = [str(case / name) for name in ("left.ofn", "right.ofn", "map.sssom.tsv")]
+    runs = [(ours(program, files), theirs(plain, files)) for _ in range(RUNS)]
+    one, other = best([run[0] for run in runs]), best([run[1] for run in runs])
+    print(told("this", one), told("plain", other), ratio(one, other), sep="\n", flush=True)
+
+
+def main():
+    yardstick = pathlib.Path(sys.argv[1]).resolve()
+    sizes = [int(word) for word in sys.argv[2:]] or [1_000, 10_000, 40_000]
+    with tempfile.TemporaryDirectory() as folder:
+        root = pathlib.Path(folder)
+        program = build(root)
+        plain = root / "plain"
+        subprocess.run(["c++", "-std=c++17", "-O2", "-o", plain, yardstick / "greedy.cpp"], check=True)
+        for classes in sizes:
+            case = root / f"case{classes}"
+            subprocess.run([sys.executable, yardstick / "make_case.py", str(classes), "1", case], check=True, stdout=subprocess.DEVNULL)
+            print(f"{classes} classes a side")
+            compare(program, plain, case)
+
+
+if __name__ == "__main__":
+    main()

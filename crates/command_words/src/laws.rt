@@ -1,0 +1,11 @@
+//! Laws of the reading.
+ghost use Rattle.std.specs.Prelude.{◌≡◌, ℕ, List};
+ghost use Rattle.command_words.specs.Words.{Given, Reads, nothing_given};
+ghost use Rattle.command_words.specs.declared.types.Program.{Program};
+
+/// Words have one reading at most.
+pub fn words_have_one_reading()
+    ensures { (program : Program) → (words : List (List ℕ)) → (first second : Given) →
+        Reads program nothing_given words first → Reads program nothing_given words second →
+        first ≡ second }
+{}

@@ -1,0 +1,15 @@
+//! Axioms tested by ascending lists of members, without a walk over the domain.
+#![tactic(auto)]
+
+mod axioms;
+mod classes;
+mod lists;
+mod numbers;
+mod pairs;
+mod properties;
+mod sets;
+#[cfg(test)]
+mod tests;
+
+pub use axioms::holds_by_lists;
+pub use numbers::has_number;
