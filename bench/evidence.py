@@ -2,7 +2,8 @@
 """Reads and writes made evidence of one to two hundred megabytes: many derivations, a large model, a long journal.
 Prints for each the seconds of a reading and of a writing, megabytes a second, nanoseconds a byte, and the peak memory
 of the process so far over the size of the text. The cost of a byte is to stay about the same as texts grow. The text
-itself, and what is written, are parts of the peak.
+itself, and what is written, are parts of the peak. First come two texts that say a great count with nothing behind it,
+which take no time and no memory to speak of.
 """
 
 from driver import run_driver
@@ -102,12 +103,27 @@ fn measure(rt: &HostRuntime, name: &str, text: &[u8]) -> Result<()> {
             let memory = peak(rt)? as f64 * 1024.0 / bytes as f64;
             println!(rt; "{name}, {bytes} bytes, same {same}: read {read_speed:.1} MB/s, {read_cost:.1} ns a byte; written {write_speed:.1} MB/s, {write_cost:.1} ns a byte; peak {memory:.1} times the text")?;
         }
-        Err(fault) => println!(rt; "{name}: {fault:?}")?,
+        Err(fault) => {
+            let reading = start.elapsed(rt)?.as_secs_f64();
+            println!(rt; "{name}, {bytes} bytes: {fault:?} after {reading:.6} seconds")?;
+        }
     }
     Ok(())
 }
 
+// Texts that say a great count, with nothing behind it.
+fn great_counts(rt: &HostRuntime) -> Result<()> {
+    let alloc = rt.alloc();
+    let mut text = Vec::from_slice(alloc, HEAD)?;
+    text.extend_from_slice(b"removed 18446744073709551615\\n".as_slice())?;
+    measure(rt, "removed rows", text.as_slice())?;
+    let mut text = Vec::from_slice(alloc, HEAD)?;
+    text.extend_from_slice(b"removed 0\\nmodel 4294967295\\n".as_slice())?;
+    measure(rt, "size of a model", text.as_slice())
+}
+
 fn main(rt: HostRuntime) -> Result<()> {
+    great_counts(&rt)?;
     for size in [1u32, 10, 100, 200] {
         let text = rows(rt.alloc(), size.wrapping_mul(3_800))?;
         measure(&rt, "derivations", text.as_slice())?;
@@ -120,4 +136,4 @@ fn main(rt: HostRuntime) -> Result<()> {
 }
 """
 
-run_driver("bench_evidence", DRIVER, ["evidence_text"], " ns a byte")
+run_driver("bench_evidence", DRIVER, ["evidence_text"], " bytes")

@@ -10,7 +10,7 @@ use std::alloc::Global;
 use std::test::Fail;
 use text_names::Limits;
 
-pub fn made(alloc: Global, left: &str, right: &str, map: &str) -> Result<Loaded, LoadFault> {
+pub(crate) fn made(alloc: Global, left: &str, right: &str, map: &str) -> Result<Loaded, LoadFault> {
     let limits = Limits::standard();
     let left = left.as_bytes();
     let right = right.as_bytes();
@@ -37,7 +37,7 @@ fn are_before(ranks: &[u32], rank: u32) -> bool
 }
 
 // The verdict on one more rank.
-pub fn tested(alloc: Global, table: &ClosedTable, rank: u32) -> Result<Verdict, Fail> {
+pub(crate) fn tested(alloc: Global, table: &ClosedTable, rank: u32) -> Result<Verdict, Fail> {
     if rank >= table.case().ranks() {
         return Err("no such rank".into());
     }
@@ -65,7 +65,7 @@ pub fn tested_both(
 }
 
 /// The table of the ranks that are kept, going down all ranks.
-pub fn chosen(alloc: Global, first: ClosedTable) -> Result<ClosedTable, Fail> {
+pub(crate) fn chosen(alloc: Global, first: ClosedTable) -> Result<ClosedTable, Fail> {
     let mut table = first;
     for rank in 0..table.case().ranks() {
         match tested(alloc, &table, rank)? {

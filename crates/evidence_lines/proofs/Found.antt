@@ -39,11 +39,6 @@ word_case word is this other x e = by (bytes_eq word is) refl e
     by true t e = inl ((bytes_decides word is).0 t, e)
     by false t e = inr e
 
--- a test that was passed
-pub if_case : {A : Type 0} → (test : Bool) (found x : A) → cond test (Some found) None ≡ Some x → (test ≡ true) × (found ≡ x)
-if_case true found x e = (refl, some_is found x e)
-if_case false found x e = none_is x e
-
 pub end_is : (fields : Fields) → is_end fields ≡ true → fields ≡ []
 end_is [] e = refl
 end_is (field ∷ rest) e = absurd cc

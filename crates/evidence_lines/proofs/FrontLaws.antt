@@ -5,7 +5,7 @@ use Rattle.line_fields.specs.Lines.{Fields}
 use Rattle.line_fields.specs.Numbers.{short_number}
 use Rattle.line_fields.specs.Reading.{◌>>=◌}
 use Rattle.evidence_lines.specs.Inside.Fronts.{with_front}
-use Rattle.evidence_lines.specs.Model.{onto, if_follows, element_follows, elements_in, pair_follows, pair_in, pairs_in}
+use Rattle.evidence_lines.specs.Model.{onto, if_follows, number_follows, elements_in, pair_follows, pair_in, pairs_in}
 
 onto_front : {X : Type 0} → (front : List X) (x : X) (o : Option (List X)) → with_front front (onto x o) ≡ with_front (front ++ x ∷ []) o
 onto_front front x None = refl
@@ -13,7 +13,7 @@ onto_front front x (Some xs) = ap (λ all. Some all) (sym (append_assoc front (x
 
 -- an element that follows
 pub element_more : (front : List ℕ) (before : Option ℕ) (fields : Fields) (field : List ℕ) (rest : Fields) (x : ℕ) (all : Option (List ℕ))
-    → fields ≡ field ∷ rest → Some x ≡ short_number field → true ≡ element_follows before x
+    → fields ≡ field ∷ rest → Some x ≡ short_number field → true ≡ number_follows before x
     → with_front front (elements_in before fields) ≡ all → with_front (front ++ x ∷ []) (elements_in (Some x) rest) ≡ all
 element_more front before fields field rest x all parts number follows so_far =
     let one : with_front front (elements_in before fields) ≡ with_front (front ++ x ∷ []) (elements_in (Some x) rest) =
@@ -27,7 +27,7 @@ no_number front before fields field rest all parts number so_far =
     let one : with_front front (elements_in before fields) ≡ None = rw (parts, ← number) refl in sym one ∙ so_far
 
 pub no_order : (front : List ℕ) (before : Option ℕ) (fields : Fields) (field : List ℕ) (rest : Fields) (x : ℕ) (all : Option (List ℕ))
-    → fields ≡ field ∷ rest → Some x ≡ short_number field → false ≡ element_follows before x
+    → fields ≡ field ∷ rest → Some x ≡ short_number field → false ≡ number_follows before x
     → with_front front (elements_in before fields) ≡ all → None ≡ all
 no_order front before fields field rest x all parts number follows so_far =
     let one : with_front front (elements_in before fields) ≡ None = rw (parts, ← number, ← follows) refl in sym one ∙ so_far

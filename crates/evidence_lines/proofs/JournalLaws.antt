@@ -2,6 +2,7 @@
 use Rattle.std.proofs.Common.{◌≡◌, inl, inr, ℕ, ◌^◌, ◌<◌, Bool, true, false, cond, List, [], ◌∷◌, ◌++◌, refl, ap, sym, subst, ◌∙◌, Option, Some, None}
 use Rattle.std.specs.Prelude.{decimal, bytes_eq, codes, ⊤}
 use Rattle.std.specs.Cmp.Lexicographic.{bytes_decides}
+use Rattle.std.proofs.lemmas.Option.{cond_some}
 use Rattle.accuse_core.specs.declared.event.Event.{Event}
 use Rattle.accuse_core.specs.declared.event.Event.TheVariants.{Take, TakeFront, No, Yes, Block}
 use Rattle.accuse_core.specs.declared.event.Reply.{Reply}
@@ -11,7 +12,7 @@ use Rattle.line_fields.specs.Lines.{Fields}
 use Rattle.line_fields.specs.Numbers.{short_number}
 use Rattle.line_fields.specs.Reading.{◌>>=◌, short_in, is_end}
 use Rattle.evidence_lines.specs.Journal.{event_fields, reply_word, reply_fields, entry_fields, is_answer, HasEntryLine, take_in, no_in, yes_in, block_in, verb_in, event_in, word_replies, first_reply, seen_of, stale_of, front_of, word_or_front, reply_of, if_answer, entry_of, AreEventNumbers, AreReplyNumbers, AreEntryNumbers}
-use Rattle.evidence_lines.proofs.Found.{NumberLaw, bound, some_is, none_is, word_case, if_case, end_is, Takes, taken, Makes, makes, short_takes}
+use Rattle.evidence_lines.proofs.Found.{NumberLaw, bound, some_is, none_is, word_case, end_is, Takes, taken, Makes, makes, short_takes}
 
 -- ---- events
 
@@ -101,7 +102,7 @@ MakesReply fields reply = Makes reply_fields AreReplyNumbers fields reply
 seen_is : NumberLaw → (rest : Fields) (reply : Reply) → seen_of rest ≡ Some reply → MakesReply (codes "seen" ∷ rest) reply
 seen_is law rest reply e =
     let v = bound (short_in rest) (λ v. cond (is_end v.1) (Some (Seen v.0)) None) reply e in
-    let t = if_case (is_end v.found.1) (Seen v.found.0) reply v.later in
+    let t = cond_some (is_end v.found.1) (Seen v.found.0) reply v.later in
     let seen = short_takes law rest v.found v.is in
     makes reply_fields AreReplyNumbers (codes "seen" ∷ rest) (Seen v.found.0) reply (ap (λ x. Some x) t.1)
     (ap (λ r. codes "seen" ∷ r) (seen.whole ∙ ap (λ r. decimal v.found.0 ∷ r) (end_is v.found.1 t.0))) seen.fits
@@ -109,7 +110,7 @@ seen_is law rest reply e =
 stale_is : NumberLaw → (rest : Fields) (reply : Reply) → stale_of rest ≡ Some reply → MakesReply (codes "stale" ∷ rest) reply
 stale_is law rest reply e =
     let v = bound (short_in rest) (λ v. cond (is_end v.1) (Some (Stale v.0)) None) reply e in
-    let t = if_case (is_end v.found.1) (Stale v.found.0) reply v.later in
+    let t = cond_some (is_end v.found.1) (Stale v.found.0) reply v.later in
     let kept = short_takes law rest v.found v.is in
     makes reply_fields AreReplyNumbers (codes "stale" ∷ rest) (Stale v.found.0) reply (ap (λ x. Some x) t.1)
     (ap (λ r. codes "stale" ∷ r) (kept.whole ∙ ap (λ r. decimal v.found.0 ∷ r) (end_is v.found.1 t.0))) kept.fits
@@ -118,7 +119,7 @@ front_is : NumberLaw → (word : List ℕ) (rest : Fields) (reply : Reply) → f
 front_is law word rest reply e =
     let q = bound (short_number word) (λ q. short_in rest >>= λ v. cond (is_end v.1) (Some (Front q v.0)) None) reply e in
     let v = bound (short_in rest) (λ v. cond (is_end v.1) (Some (Front q.found v.0)) None) reply q.later in
-    let t = if_case (is_end v.found.1) (Front q.found v.found.0) reply v.later in
+    let t = cond_some (is_end v.found.1) (Front q.found v.found.0) reply v.later in
     let rank = law.short word q.found q.is in
     let seen = short_takes law rest v.found v.is in
     makes reply_fields AreReplyNumbers (word ∷ rest) (Front q.found v.found.0) reply (ap (λ x. Some x) t.1)
@@ -150,7 +151,7 @@ word_or_front_is law word rest reply e = by (first_reply word_replies word) refl
     by None t e = front_is law word rest reply e
     by (Some named) t e =
         let w = first_reply_is word_replies words_are word named t in
-        let end = if_case (is_end rest) named reply e in
+        let end = cond_some (is_end rest) named reply e in
         makes reply_fields AreReplyNumbers (word ∷ rest) named reply (ap (λ x. Some x) end.1)
         (ap (λ f. f ∷ rest) w.0 ∙ ap (λ r. reply_word named ∷ r) (end_is rest end.0) ∙ sym w.1.0) w.1.1
 
@@ -213,7 +214,7 @@ unfolding entry_of
 entry_back law fields entry e =
     let v = bound (event_in fields) (λ v. reply_of v.1 >>= λ r. if_answer v.0 r) entry e in
     let r = bound (reply_of v.found.1) (λ r. if_answer v.found.0 r) entry v.later in
-    let t = if_case (is_answer v.found.0 r.found) (record { event = v.found.0; reply = r.found }) entry r.later in
+    let t = cond_some (is_answer v.found.0 r.found) (record { event = v.found.0; reply = r.found }) entry r.later in
     let event = event_takes law fields v.found v.is in
     let reply = reply_is law v.found.1 r.found r.is in
     makes entry_fields FitsEntry fields (record { event = v.found.0; reply = r.found }) entry (ap (λ x. Some x) t.1)

@@ -7,3 +7,4 @@ pub mod ModelLaws
 pub mod FrontLaws
 pub mod PutLaws
 pub mod PlainLaws
+pub mod FirstLineLaws

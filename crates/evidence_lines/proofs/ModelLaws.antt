@@ -4,11 +4,12 @@ use Rattle.std.specs.Prelude.{decimal, bytes_eq, codes}
 use Rattle.std.specs.Cmp.Lexicographic.{bytes_decides}
 use Rattle.std.proofs.lemmas.Bool.{eqb-true}
 use Rattle.std.proofs.lemmas.Bool.Decides.{nat_tests}
+use Rattle.std.proofs.lemmas.Option.{cond_some}
 use Rattle.line_fields.specs.Lines.{Fields}
 use Rattle.line_fields.specs.Numbers.{short_number}
 use Rattle.line_fields.specs.Reading.{◌>>=◌, short_in}
-use Rattle.evidence_lines.specs.Model.{element_fields, pair_fields, class_fields, property_fields, element_follows, pair_follows, ElementsAscend, PairsAscend, onto, if_follows, elements_in, pairs_in, after_number, after_word, members_of, pairs_of, AreElementNumbers, ArePairNumbers}
-use Rattle.evidence_lines.proofs.Found.{NumberLaw, bound, some_is, none_is, if_case, Makes, makes, short_takes}
+use Rattle.evidence_lines.specs.Model.{element_fields, pair_fields, class_fields, property_fields, number_follows, pair_follows, ElementsAscend, PairsAscend, onto, if_follows, elements_in, pairs_in, after_number, after_word, members_of, pairs_of, AreElementNumbers, ArePairNumbers}
+use Rattle.evidence_lines.proofs.Found.{NumberLaw, bound, some_is, none_is, Makes, makes, short_takes}
 
 -- an element before others
 record IsOnto {X : Type 0} (x : X) (o : Option (List X)) (xs : List X) : Type 0 where
@@ -36,8 +37,8 @@ MakesElements before fields xs = Makes element_fields (FitsElements before) fiel
 elements_are : NumberLaw → (before : Option ℕ) (fields : Fields) (xs : List ℕ) → elements_in before fields ≡ Some xs → MakesElements before fields xs
 elements_are law before [] xs e = makes element_fields (FitsElements before) [] [] xs e refl (record { ascend = tt; numbers = tt })
 elements_are law before (field ∷ rest) xs e =
-    let b = bound (short_number field) (λ x. if_follows (element_follows before x) (onto x (elements_in (Some x) rest))) xs e in
-    let f = follows_is (element_follows before b.found) (onto b.found (elements_in (Some b.found) rest)) xs b.later in
+    let b = bound (short_number field) (λ x. if_follows (number_follows before x) (onto x (elements_in (Some x) rest))) xs e in
+    let f = follows_is (number_follows before b.found) (onto b.found (elements_in (Some b.found) rest)) xs b.later in
     let o = onto_is b.found (elements_in (Some b.found) rest) xs f.1 in
     let number = law.short field b.found b.is in
     let later = elements_are law (Some b.found) rest o.others o.is in
@@ -52,10 +53,10 @@ elements_again law before (x ∷ xs) ascend numbers =
 
 -- ---- words and numbers before the lists
 
-after_word_is : (word : List ℕ) (fields rest : Fields) → after_word word fields ≡ Some rest → fields ≡ word ∷ rest
+pub after_word_is : (word : List ℕ) (fields rest : Fields) → after_word word fields ≡ Some rest → fields ≡ word ∷ rest
 after_word_is word [] rest e = none_is rest e
 after_word_is word (field ∷ others) rest e =
-    let t = if_case (bytes_eq field word) others rest e in
+    let t = cond_some (bytes_eq field word) others rest e in
     ap (λ f. f ∷ others) ((bytes_decides field word).0 t.0) ∙ ap (λ r. word ∷ r) t.1
 
 record IsNumbered (number : ℕ) (fields rest : Fields) : Type 0 where
@@ -65,7 +66,7 @@ record IsNumbered (number : ℕ) (fields rest : Fields) : Type 0 where
 after_number_is : NumberLaw → (number : ℕ) (fields rest : Fields) → after_number number fields ≡ Some rest → IsNumbered number fields rest
 after_number_is law number fields rest e =
     let b = bound (short_in fields) (λ f. cond (f.0 == number) (Some f.1) None) rest e in
-    let t = if_case (b.found.0 == number) b.found.1 rest b.later in
+    let t = cond_some (b.found.0 == number) b.found.1 rest b.later in
     let short = short_takes law fields b.found b.is in
     let same : b.found.0 ≡ number = eqb-true b.found.0 number t.0 in
     record {

@@ -5,6 +5,8 @@ use Rattle.std.specs.Str.{is_utf8}
 use Rattle.std.specs.Cmp.Lexicographic.{bytes_decides}
 use Rattle.std.proofs.lemmas.Str.{IsUtf8-from_is_utf8, is_utf8-from_IsUtf8}
 use Rattle.std.proofs.lemmas.List.{take_at, drop_at, take-append-drop, length-append}
+use Rattle.std.proofs.lemmas.Bool.{and_parts}
+use Rattle.std.proofs.lemmas.Option.{cond_some}
 use Rattle.el_logic.specs.declared.types.Side.{Side}
 use Rattle.el_logic.specs.declared.types.Side.TheVariants as side
 use Rattle.byte_words.specs.Fronts.{without_front}
@@ -15,7 +17,7 @@ use Rattle.evidence_lines.specs.declared.types.NodeLine.TheVariants.{Top, Bottom
 use Rattle.evidence_lines.specs.declared.types.RoleLine.{RoleLine}
 use Rattle.evidence_lines.specs.declared.types.RoleLine.TheVariants.{Property, Part}
 use Rattle.evidence_lines.specs.Names.{iri_field, is_iri, side_word, node_fields, role_fields, HasNodeLine, HasRoleLine, without_back, if_iri, iri_of, iri_in, if_end, one_iri, two_numbers, class_of, and_of, some_of, plain_by, node_of, side_named, side_in, property_of, part_of, role_of, IsNodeValue, IsRoleValue}
-use Rattle.evidence_lines.proofs.Found.{NumberLaw, bound, some_is, none_is, word_case, if_case, end_is, Takes, Makes, makes, rest_is, short_takes}
+use Rattle.evidence_lines.proofs.Found.{NumberLaw, bound, some_is, none_is, word_case, end_is, Takes, Makes, makes, rest_is, short_takes}
 
 -- ---- IRIs
 
@@ -24,14 +26,10 @@ pub record FrontLaw : Type 0 where
   pub found : (front rest : List ℕ) → without_front front (front ++ rest) ≡ Some rest
   pub whole : (front text rest : List ℕ) → without_front front text ≡ Some rest → text ≡ front ++ rest
 
-both_true : (x y : Bool) → (x && y) ≡ true → (x ≡ true) × (y ≡ true)
-both_true true y e = (refl, e)
-both_true false y e = absurd cc
-
 without_back_is : (back text front : List ℕ) → without_back back text ≡ Some front → text ≡ front ++ back
 without_back_is back text front e =
     let n = length text - length back in
-    let h = if_case (bytes_eq (drop n text) back) (take n text) front e in
+    let h = cond_some (bytes_eq (drop n text) back) (take n text) front e in
     sym (take-append-drop n text) ∙ ap (λ t. take n text ++ t) ((bytes_decides (drop n text) back).0 h.0) ∙ ap (λ t. t ++ back) h.1
 
 without_back-append : (back front : List ℕ) → without_back back (front ++ back) ≡ Some front
@@ -50,8 +48,8 @@ iri_is : FrontLaw → (field iri : List ℕ) → iri_of field ≡ Some iri → I
 iri_is law field iri e =
     let r = bound (without_front (60 ∷ []) field) (λ rest. without_back (62 ∷ []) rest >>= if_iri) iri e in
     let b = bound (without_back (62 ∷ []) r.found) if_iri iri r.later in
-    let t = if_case (is_iri b.found && is_utf8 b.found) b.found iri b.later in
-    let tests = both_true (is_iri b.found) (is_utf8 b.found) t.0 in
+    let t = cond_some (is_iri b.found && is_utf8 b.found) b.found iri b.later in
+    let tests = and_parts (is_iri b.found) (is_utf8 b.found) t.0 in
     record {
       whole = law.whole (60 ∷ []) field r.found r.is ∙ ap (λ rest. 60 ∷ rest) (without_back_is (62 ∷ []) r.found b.found b.is ∙ ap (λ i. i ++ 62 ∷ []) t.1);
       bytes = subst (λ i. is_iri i ≡ true) t.1 tests.0;
@@ -67,7 +65,7 @@ iri_again law iri bytes text =
 -- ---- the fields after a word
 
 pub if_end_is : {X : Type 0} → (fields : Fields) (found x : X) → if_end fields found ≡ Some x → (fields ≡ []) × (found ≡ x)
-if_end_is fields found x e = let t = if_case (is_end fields) found x e in (end_is fields t.0, t.1)
+if_end_is fields found x e = let t = cond_some (is_end fields) found x e in (end_is fields t.0, t.1)
 
 pub record IsOneIri (fields : Fields) (iri : List ℕ) : Type 0 where
   pub whole : fields ≡ iri_field iri ∷ []

@@ -3,6 +3,7 @@ use Rattle.std.proofs.Common.{◌≡◌, ◌≢◌, ℕ, ◌+◌, ◌^◌, ◌<�
 use Rattle.std.specs.Prelude.{decimal, codes}
 use Rattle.std.specs.List.{AllByRecursion, list_all}
 use Rattle.std.proofs.lemmas.Bool.Decides.{nat_tests}
+use Rattle.std.proofs.lemmas.Bool.{and_parts, not-true}
 use Rattle.el_logic.specs.declared.types.Side.{Side}
 use Rattle.el_logic.specs.declared.types.Side.TheVariants as side
 use Rattle.fact_table.specs.declared.types.Fact.{Fact}
@@ -36,17 +37,10 @@ use Rattle.evidence_lines.proofs.Found.{NumberLaw}
 abbrev AreFields : Fields → Type 0
 AreFields fields = AllByRecursion IsField fields
 
-both_true : (x y : Bool) → (x && y) ≡ true → (x ≡ true) × (y ≡ true)
-both_true true y e = (refl, e)
-both_true false y e = absurd cc
-
-not_true : (x : Bool) → not x ≡ true → x ≡ false
-not_true true e = absurd cc
-not_true false e = refl
-
-word : (bytes : List ℕ) → list_all (λ b. not (parts_fields b)) bytes ≡ true → IsField bytes
+-- bytes that pass the test are a field
+pub word : (bytes : List ℕ) → list_all (λ b. not (parts_fields b)) bytes ≡ true → IsField bytes
 word [] e = tt
-word (b ∷ bs) e = let h = both_true (not (parts_fields b)) (list_all (λ b. not (parts_fields b)) bs) e in (not_true (parts_fields b) h.0, word bs h.1)
+word (b ∷ bs) e = let h = and_parts (not (parts_fields b)) (list_all (λ b. not (parts_fields b)) bs) e in (not-true (parts_fields b) h.0, word bs h.1)
 
 fields-append : (fields more : Fields) → AreFields fields → AreFields more → AreFields (fields ++ more)
 fields-append [] more each later = later
@@ -111,12 +105,12 @@ iri_byte_plain b e = grind (arith, nat_tests, e)
 
 iri_rest : (iri : List ℕ) → is_iri iri ≡ true → IsField (iri ++ 62 ∷ [])
 iri_rest [] e = (refl, tt)
-iri_rest (b ∷ bs) e = let h = both_true (is_iri_byte b) (is_iri bs) e in (iri_byte_plain b h.0, iri_rest bs h.1)
+iri_rest (b ∷ bs) e = let h = and_parts (is_iri_byte b) (is_iri bs) e in (iri_byte_plain b h.0, iri_rest bs h.1)
 
 iri_plain : (iri : List ℕ) → is_iri iri ≡ true → IsField (iri_field iri)
 iri_plain iri e = (refl, iri_rest iri e)
 
-not_nil : (field : List ℕ) (fields : Fields) → (field ∷ fields) ≢ []
+pub not_nil : (field : List ℕ) (fields : Fields) → (field ∷ fields) ≢ []
 not_nil field fields e = absurd cc
 
 pub node_line : NumberLaw → (n : NodeLine) → HasNodeLine n → IsNodeValue n → IsLine (node_fields n)

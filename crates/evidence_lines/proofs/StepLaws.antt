@@ -1,8 +1,10 @@
 -- A line of a step is read as the step that it spells, and as no other.
 use Rattle.std.proofs.Common.{◌≡◌, ◌⊎◌, inl, inr, ℕ, ◌^◌, ◌<◌, ◌==◌, ◌||◌, Bool, true, false, cond, List, [], ◌∷◌, ◌++◌, refl, ap, sym, subst, ◌∙◌, arith, Option, Some, None}
 use Rattle.std.specs.Prelude.{decimal, bytes_eq, codes, ⊤}
+use Rattle.std.specs.Option.{option_or}
 use Rattle.std.proofs.lemmas.Bool.{eqb-true}
 use Rattle.std.proofs.lemmas.List.{append-nil}
+use Rattle.std.proofs.lemmas.Option.{cond_some}
 use Rattle.fact_table.specs.declared.types.Fact.{Fact}
 use Rattle.fact_table.specs.declared.types.Fact.TheVariants.{Sub, Link}
 use Rattle.fact_table.specs.declared.types.Rule.{Rule}
@@ -13,8 +15,8 @@ use Rattle.derivation.specs.declared.types.Step.{Step}
 use Rattle.line_fields.specs.Lines.{Fields}
 use Rattle.line_fields.specs.Reading.{◌>>=◌, short_in, is_end}
 use Rattle.evidence_lines.specs.Steps.{fact_fields, rule_word, names_first, names_second, names_axiom, premise_fields, source_fields, argument_fields, step_fields, IsPremise, IsSource, HasStepLine, AreFactNumbers, AreSourceNumbers, AreStepNumbers}
-use Rattle.evidence_lines.specs.StepReading.{sub_in, link_in, fact_in, first_rules, last_rules, first_rule, or_else, rule_named, rule_in, premise_in, left_in, right_in, row_in, axiom_in, source_in, ended_step, step_of}
-use Rattle.evidence_lines.proofs.Found.{NumberLaw, bound, some_is, none_is, word_case, if_case, end_is, Takes, taken, Makes, makes, rest_is, short_takes, long_takes}
+use Rattle.evidence_lines.specs.StepReading.{sub_in, link_in, fact_in, first_rules, last_rules, first_rule, rule_named, rule_in, premise_in, left_in, right_in, row_in, axiom_in, source_in, ended_step, step_of}
+use Rattle.evidence_lines.proofs.Found.{NumberLaw, bound, some_is, none_is, word_case, end_is, Takes, taken, Makes, makes, rest_is, short_takes, long_takes}
 
 -- ---- facts
 
@@ -83,13 +85,13 @@ first_rule_word (k ∷ rs) word r e =
       | inr h ↦ first_rule_word rs word r h
     ]
 
-or_else_is : {X P : Type 0} → (one other : Option X) (x : X) → (one ≡ Some x → P) → (other ≡ Some x → P) → or_else one other ≡ Some x → P
-or_else_is (Some y) other x first second e = first e
-or_else_is None other x first second e = second e
+option_or_is : {X P : Type 0} → (one other : Option X) (x : X) → (one ≡ Some x → P) → (other ≡ Some x → P) → option_or one other ≡ Some x → P
+option_or_is (Some y) other x first second e = first e
+option_or_is None other x first second e = second e
 
 rule_word_is : (word : List ℕ) (r : Rule) → rule_named word ≡ Some r → word ≡ rule_word r
 rule_word_is word r e =
-    or_else_is (first_rule first_rules word) (first_rule last_rules word) r (first_rule_word first_rules word r) (first_rule_word last_rules word r) e
+    option_or_is (first_rule first_rules word) (first_rule last_rules word) r (first_rule_word first_rules word r) (first_rule_word last_rules word r) e
 
 abbrev one_rule : Rule → Fields
 one_rule r = rule_word r ∷ []
@@ -148,7 +150,7 @@ row_takes law rest found e =
     let b = bound (short_in a.found.1) (λ n. cond (n.0 == 1 || n.0 == 2) (Some (Row a.found.0 n.0, n.1)) None) found a.later in
     let first = short_takes law rest a.found a.is in
     let second = short_takes law a.found.1 b.found b.is in
-    let test = if_case (b.found.0 == 1 || b.found.0 == 2) (Row a.found.0 b.found.0, b.found.1) found b.later in
+    let test = cond_some (b.found.0 == 1 || b.found.0 == 2) (Row a.found.0 b.found.0, b.found.1) found b.later in
     taken source_fields (FitsSource true) (codes "row" ∷ rest) (Row a.found.0 b.found.0, b.found.1) found (ap (λ x. Some x) test.1)
     (ap (λ r. codes "row" ∷ r) (first.whole ∙ ap (λ r. decimal a.found.0 ∷ r) second.whole)) (one_or_two b.found.0 test.0, (first.fits, second.fits))
 
@@ -192,7 +194,7 @@ pub record FitsStep (step : Step) : Type 0 where
 ended_takes : (fact : Fact) (rule : Rule) (first second : ℕ) (source : Source × Fields) (step : Step) → ended_step fact rule first second source ≡ Some step
     → (source.1 ≡ []) × (record { first = first; second = second; fact = fact; source = source.0; rule = rule } ≡ step)
 ended_takes fact rule first second source step e =
-    let test = if_case (is_end source.1) (record { first = first; second = second; fact = fact; source = source.0; rule = rule }) step e in
+    let test = cond_some (is_end source.1) (record { first = first; second = second; fact = fact; source = source.0; rule = rule }) step e in
     (end_is source.1 test.0, test.1)
 
 pub step_back : NumberLaw → (fields : Fields) (step : Step) → step_of fields ≡ Some step → Makes step_fields FitsStep fields step

@@ -4,5 +4,6 @@ pub mod Names
 pub mod Omitted
 pub mod Journal
 pub mod Model
+pub mod FirstLines
 pub mod LineLaw
 pub mod Inside

@@ -21,9 +21,9 @@ abbrev pub property_fields : ℕ → List (ℕ × ℕ) → Fields
 property_fields place pairs = codes "role" ∷ decimal place ∷ pair_fields pairs
 
 -- the element, or the pair, may follow the one before it
-abbrev pub element_follows : Option ℕ → ℕ → Bool
-element_follows None x = true
-element_follows (Some before) x = nat_lt before x
+abbrev pub number_follows : Option ℕ → ℕ → Bool
+number_follows None x = true
+number_follows (Some before) x = nat_lt before x
 
 abbrev pub is_pair_before : ℕ × ℕ → ℕ × ℕ → Bool
 is_pair_before p q = nat_lt p.0 q.0 || (p.0 == q.0 && nat_lt p.1 q.1)
@@ -35,7 +35,7 @@ pair_follows (Some before) p = is_pair_before before p
 -- elements, or pairs, ascend without repeats
 abbrev pub ElementsAscend : Option ℕ → List ℕ → Type 0
 ElementsAscend before [] = ⊤
-ElementsAscend before (x ∷ xs) = (element_follows before x ≡ true) × ElementsAscend (Some x) xs
+ElementsAscend before (x ∷ xs) = (number_follows before x ≡ true) × ElementsAscend (Some x) xs
 
 abbrev pub PairsAscend : Option (ℕ × ℕ) → List (ℕ × ℕ) → Type 0
 PairsAscend before [] = ⊤
@@ -53,7 +53,7 @@ abbrev pub elements_in : Option ℕ → Fields → Option (List ℕ)
 elements_in before [] = Some []
 elements_in before (field ∷ rest) =
     short_number field >>= λ x.
-    if_follows (element_follows before x) (onto x (elements_in (Some x) rest))
+    if_follows (number_follows before x) (onto x (elements_in (Some x) rest))
 
 -- a pair, the first number of which is this field
 abbrev pub pair_in : List ℕ → Fields → Option ((ℕ × ℕ) × Fields)

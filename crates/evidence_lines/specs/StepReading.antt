@@ -1,5 +1,6 @@
 -- How a line of a step is read.
 use Rattle.std.specs.Prelude.{ℕ, ◌==◌, ◌||◌, Bool, if◌then◌else◌, List, [], ◌∷◌, codes, bytes_eq, Option, Some, None}
+use Rattle.std.specs.Option.{option_or}
 use Rattle.fact_table.specs.declared.types.Fact.{Fact}
 use Rattle.fact_table.specs.declared.types.Fact.TheVariants.{Sub, Link}
 use Rattle.fact_table.specs.declared.types.Rule.{Rule}
@@ -42,12 +43,8 @@ abbrev pub first_rule : List Rule → List ℕ → Option Rule
 first_rule [] word = None
 first_rule (r ∷ rs) word = if bytes_eq word (rule_word r) then Some r else first_rule rs word
 
-abbrev pub or_else : {X : Type 0} → Option X → Option X → Option X
-or_else (Some x) other = Some x
-or_else None other = other
-
 abbrev pub rule_named : List ℕ → Option Rule
-rule_named word = or_else (first_rule first_rules word) (first_rule last_rules word)
+rule_named word = option_or (first_rule first_rules word) (first_rule last_rules word)
 
 abbrev pub rule_in : Fields → Option (Rule × Fields)
 rule_in [] = None

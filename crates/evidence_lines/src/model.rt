@@ -2,13 +2,14 @@
 
 ghost use Rattle.std.specs.Prelude.{◌≡◌, ◌+◌, ◌≤◌, ◌<◌, ◌^◌, IfOk, IfSome, None, Some};
 ghost use Rattle.std.specs.Option.{option_map};
-ghost use Rattle.evidence_lines.specs.Model.{elements_in, pair_in, pairs_in, after_number, after_word, members_of, pairs_of, element_follows, is_pair_before, pair_follows};
+ghost use Rattle.evidence_lines.specs.Model.{elements_in, pair_in, pairs_in, after_number, after_word, members_of, pairs_of, number_follows, is_pair_before, pair_follows};
 
 use el_logic::{Numbers, Pairs};
 use line_fields::{Fields, short_number};
 use std::alloc::{AllocError, Global};
 
-fn after_word<'a>(word: &[u8], fields: Fields<'a>) -> Option<Fields<'a>>
+/// The fields after this word, if it is the first.
+pub fn after_word<'a>(word: &[u8], fields: Fields<'a>) -> Option<Fields<'a>>
     ensures { result ≡ after_word word.now fields.entry }
 {
     let (field, rest) = fields.next()?;
@@ -27,12 +28,13 @@ fn after_number(number: u64, fields: Fields<'_>) -> Option<Fields<'_>>
     }
 }
 
-fn element_follows(before: Option<u32>, element: u32) -> bool
-    ensures { result ≡ element_follows before element }
+/// Whether the number may follow this one in an ascending list.
+pub fn number_follows(before: Option<u32>, number: u32) -> bool
+    ensures { result ≡ number_follows before number }
 {
     match before {
         None => true,
-        Some(before) => before < element,
+        Some(before) => before < number,
     }
 }
 
@@ -46,7 +48,7 @@ fn elements_in(alloc: Global, fields: Fields<'_>) -> Result<Option<Numbers>, All
         let Some(element) = short_number(field) else {
             return Ok(None);
         };
-        if !element_follows(before, element) {
+        if !number_follows(before, element) {
             return Ok(None);
         }
         elements.push(element)?;

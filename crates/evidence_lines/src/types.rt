@@ -1,8 +1,17 @@
 //! What lines of evidence say.
 
-use el_logic::{ListOf, Side};
+use el_logic::{ListOf, Part, Side};
 use ofn_axiom::Omitted;
 use text_names::Text;
+
+/// What evidence is for.
+#[derive(Clone, Copy, Debug, PartialEq, Eq)]
+pub enum Kind {
+    /// A repaired table.
+    Diagnosis,
+    /// Ontologies that are incoherent without any row.
+    Refusal(Part),
+}
 
 /// A node of a case.
 #[derive(Debug, Drop)]

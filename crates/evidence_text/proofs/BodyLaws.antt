@@ -1,12 +1,12 @@
 -- The bodies of evidence are read as what they spell, and as nothing else.
-use Rattle.std.proofs.Common.{◌≡◌, ℕ, ◌+◌, ◌^◌, ◌<◌, Bool, true, false, List, [], ◌∷◌, ◌++◌, length, map, Option, Some, None, Result, Ok, Err, refl, sym, ap, subst, ◌∙◌, append_assoc}
-use Rattle.std.specs.Prelude.{codes, decimal, ⊤, nat_lt}
+use Rattle.std.proofs.Common.{◌≡◌, ℕ, ◌+◌, ◌^◌, ◌<◌, List, [], ◌∷◌, ◌++◌, length, map, Option, Some, None, Ok, refl, sym, ap, subst, ◌∙◌, append_assoc}
+use Rattle.std.specs.Prelude.{codes, ⊤}
 use Rattle.std.specs.List.{AllByRecursion, flat_map}
 use Rattle.el_logic.specs.declared.types.Interp.{Interp}
 use Rattle.el_logic.specs.declared.types.Part.{Part}
 use Rattle.derivation.specs.declared.types.Step.{Step}
 use Rattle.accuse_core.specs.declared.journal.Entry.{Entry}
-use Rattle.line_fields.specs.Lines.{Fields, IsLine}
+use Rattle.line_fields.specs.Lines.{Fields}
 use Rattle.line_fields.specs.Reading.{At}
 use Rattle.evidence_lines.specs.LineLaw.{AreLinesOf}
 use Rattle.evidence_lines.specs.Steps.{step_fields, HasStepLine, AreStepNumbers}
@@ -15,23 +15,26 @@ use Rattle.evidence_lines.specs.Names.{node_fields, role_fields, HasNodeLine, Ha
 use Rattle.evidence_lines.specs.Omitted.{omitted_fields, omitted_of, ArePlaceNumbers}
 use Rattle.evidence_lines.specs.Journal.{entry_fields, HasEntryLine, entry_of, AreEntryNumbers}
 use Rattle.evidence_lines.specs.Model.{class_fields, property_fields, HasClassLine, HasPropertyLine, members_of, pairs_of, AreElementNumbers, ArePairNumbers}
-use Rattle.evidence_text.specs.declared.types.EvidenceFault.{EvidenceFault}
-use Rattle.evidence_text.specs.declared.types.EvidenceFault.TheVariants.{Version, Line, Length, OutOfMemory}
-use Rattle.evidence_text.specs.declared.types.Kind.{Kind}
-use Rattle.evidence_text.specs.declared.types.Kind.TheVariants as kind
+use Rattle.evidence_text.specs.declared.types.EvidenceFault.TheVariants.{Length}
+use Rattle.evidence_lines.specs.declared.types.Kind.{Kind}
+use Rattle.evidence_lines.specs.declared.types.Kind.TheVariants as kind
 use Rattle.evidence_text.specs.declared.types.Removed.{Removed}
 use Rattle.evidence_text.specs.declared.types.Body.{Body}
 use Rattle.evidence_text.specs.declared.types.Body.TheVariants as body
-use Rattle.evidence_text.specs.EvidenceText.{numbered, section_lines, row_fields, removed_lines, rows_lines, lines_from, model_lines, body_lines, HaveLinesFrom, InOrder, row_before, HasBodyText, AreRemovedNumbers, AreModelNumbers, AreBodyNumbers, plain_body}
-use Rattle.evidence_text.specs.FirstLines.{row_follows, count_of, size_of}
-use Rattle.evidence_text.specs.Reading.{Read, ◌>>=◌, next_line, first_line, entries, section, any_order, rows, removed_rows, run_of, run_at, with_journal, with_roles, with_classes, diagnosis, refusal, body_by}
-use Rattle.evidence_text.proofs.OptionLaws.{NumberLaw, count_is, count_again, size_is, size_again}
-use Rattle.evidence_text.proofs.SectionLaws.{Bound, bound, ok_is, next_is, Again, next_again, IsForm, AllFit, IsSection, section_back, section_again, FitsAny, any_form, any_fit, any_parts}
-use Rattle.evidence_text.proofs.WholeLaws.{FitsRow, RowsFit, StepLaw, AreRows, rows_back, rows_again, IsPlaceForm, AreRun, run_back, Stops, RunAgain, run_again}
+use Rattle.evidence_text.specs.EvidenceText.{section_lines, removed_lines, rows_lines, lines_from, body_lines, HaveLinesFrom, InOrder, row_before, HasBodyText, AreRemovedNumbers, AreBodyNumbers, plain_body}
+use Rattle.evidence_lines.specs.FirstLines.{version_fields, kind_fields, numbered, end_fields, version_of, kind_of, count_of, size_of, end_of}
+use Rattle.evidence_text.specs.Reading.{◌>>=◌, first_line, section, any_order, rows, removed_rows, run_at, with_roles, with_classes, diagnosis, refusal, body_by}
+use Rattle.evidence_text.proofs.SectionLaws.{CountLaw, bound, ok_is, next_is, Again, next_again, section_back, section_again, FitsAny, any_form, any_fit, any_parts}
+use Rattle.evidence_text.proofs.WholeLaws.{RowsFit, RowLaw, StepLaw, rows_back, rows_again, IsPlaceForm, run_back, Stops, run_again}
 
 -- what is known of lines
 pub record LineLaws : Type 0 where
-  pub number : NumberLaw
+  pub version : AreLinesOf version_of (λ u. version_fields) (λ u. ⊤) (λ u. ⊤)
+  pub kinds : AreLinesOf kind_of kind_fields (λ k. ⊤) (λ k. ⊤)
+  pub counts : CountLaw
+  pub rows : RowLaw
+  pub size : AreLinesOf size_of (numbered (codes "model")) (λ n. ⊤) (λ n. n < 2 ^ 32)
+  pub end : AreLinesOf end_of (λ u. end_fields) (λ u. ⊤) (λ u. ⊤)
   pub steps : StepLaw
   pub nodes : AreLinesOf node_of node_fields HasNodeLine IsNodeValue
   pub roles : AreLinesOf role_of role_fields HasRoleLine IsRoleValue
@@ -52,12 +55,12 @@ unfolding removed_rows
 removed_back laws at found e =
     let n = bound (first_line (count_of (codes "removed")) at) (λ n. rows (at.read + 1) n.0 None n.1) found e in
     let next = next_is (count_of (codes "removed")) (Length at.read) at n.found n.is in
-    let count = count_is laws.number (codes "removed") next.fields n.found.0 next.is in
-    let list = rows_back laws.number laws.steps (at.read + 1) n.found.0 None n.found.1 found n.later in
+    let count = (laws.counts (codes "removed") refl).back next.fields n.found.0 next.is in
+    let list = rows_back laws.rows laws.steps (at.read + 1) n.found.0 None n.found.1 found n.later in
     record {
       whole = next.lines ∙ ap (λ f. f ∷ n.found.1.lines) count.0 ∙ ap (λ k. numbered (codes "removed") k ∷ n.found.1.lines) (sym list.count_is)
           ∙ ap (λ l. numbered (codes "removed") (length found.0) ∷ l) list.whole;
-      count = rw list.count_is count.1;
+      count = rw list.count_is count.2;
       fit = list.fit;
     }
 
@@ -65,8 +68,8 @@ removed_again : LineLaws → (rs : List Removed) (read : ℕ) (rest : List Field
     → Again (removed_rows (record { read = read; lines = rows_lines rs ++ rest })) rs rest
 unfolding removed_rows
 removed_again laws rs read rest below fit =
-    let one = next_again (count_of (codes "removed")) (Length read) read (numbered (codes "removed") (length rs)) (flat_map removed_lines rs ++ rest) (length rs) (count_again laws.number (codes "removed") (length rs) below) in
-    let later = rows_again laws.number laws.steps (read + 1) None rs (read + 1) rest fit in
+    let one = next_again (count_of (codes "removed")) (Length read) read (numbered (codes "removed") (length rs)) (flat_map removed_lines rs ++ rest) (length rs) ((laws.counts (codes "removed") refl).again (length rs) tt below) in
+    let later = rows_again laws.rows laws.steps (read + 1) None rs (read + 1) rest fit in
     record { read = later.read; is = ap (λ r. r >>= λ n. rows (read + 1) n.0 None n.1) one ∙ later.is }
 
 -- what fits row by row, as the definitions have it
@@ -156,10 +159,10 @@ diagnosis_back laws at found e =
     let j = bound (section (codes "journal") (any_order entry_of) ps.1) (λ journal. Ok (body.Diagnosis r.found.0 model (record { entries = journal.0; room = 0 }), journal.1)) found z.later in
     let rows = removed_back laws at r.found r.is in
     let next = next_is size_of (Length r.found.1.read) r.found.1 z.found z.is in
-    let size = size_is laws.number next.fields z.found.0 next.is in
+    let size = laws.size.back next.fields z.found.0 next.is in
     let classes = run_back members_of class_fields FitsClass (class_form laws) 0 z.found.1.read z.found.1.lines in
     let roles = run_back pairs_of property_fields FitsProperty (property_form laws) 0 cs.1.read cs.1.lines in
-    let journal = section_back laws.number (any_order entry_of) entry_fields (FitsAny HasEntryLine AreEntryNumbers) (any_form entry_of entry_fields HasEntryLine AreEntryNumbers laws.entries) (codes "journal") ps.1 j.found j.is in
+    let journal = section_back laws.counts (any_order entry_of) entry_fields (FitsAny HasEntryLine AreEntryNumbers) (any_form entry_of entry_fields HasEntryLine AreEntryNumbers laws.entries) (codes "journal") refl ps.1 j.found j.is in
     let entries = any_parts HasEntryLine AreEntryNumbers None j.found.0 journal.fit in
     let class_parts = from_parts HasClassLine AreElementNumbers 0 cs.0 classes.fit in
     let role_parts = from_parts HasPropertyLine ArePairNumbers 0 ps.0 roles.fit in
@@ -176,7 +179,7 @@ diagnosis_back laws at found e =
     subst (λ f. IsBody kind.Diagnosis at.lines f) (ok_is made found j.later) (record {
       whole = whole;
       has = (rows_order r.found.0 rows.fit, rows_steps None r.found.0 rows.fit, class_parts.0, role_parts.0, entries.0);
-      numbers = (rows.count, rows_numbers None r.found.0 rows.fit, record { size = size.1; classes = class_parts.1; roles = role_parts.1 }, journal.count, entries.1);
+      numbers = (rows.count, rows_numbers None r.found.0 rows.fit, record { size = size.2; classes = class_parts.1; roles = role_parts.1 }, journal.count, entries.1);
       plain = refl;
     })
 
@@ -193,13 +196,13 @@ diagnosis_again laws removed model list room read rest has numbers =
     let regrouped : (rows_lines removed ++ head ((C ++ P) ++ J)) ++ rest ≡ rows_lines removed ++ head (C ++ (P ++ (J ++ rest))) =
     append_assoc (rows_lines removed) (head ((C ++ P) ++ J)) rest ∙ ap (λ l. rows_lines removed ++ head l) (four_parts C P J rest) in
     let rows = removed_again laws removed read (head (C ++ (P ++ (J ++ rest)))) numbers.0 (rows_fit removed has.0 has.1 numbers.1) in
-    let size = next_again size_of (Length rows.read) rows.read (numbered (codes "model") model.size) (C ++ (P ++ (J ++ rest))) model.size (size_again laws.number model.size numbers.2.size) in
+    let size = next_again size_of (Length rows.read) rows.read (numbered (codes "model") model.size) (C ++ (P ++ (J ++ rest))) model.size (laws.size.again model.size tt numbers.2.size) in
     let classes = run_again members_of class_fields FitsClass (class_form laws) 0 (rows.read + 1) model.classes (P ++ (J ++ rest))
     (to_parts HasClassLine AreElementNumbers 0 model.classes has.2 numbers.2.classes) (no_members model.roles (length list) (map entry_fields list ++ rest)) in
     let roles = run_again pairs_of property_fields FitsProperty (property_form laws) 0 classes.read model.roles (J ++ rest)
     (to_parts HasPropertyLine ArePairNumbers 0 model.roles has.3 numbers.2.roles) (no_pairs (length list) (map entry_fields list ++ rest)) in
-    let journal = section_again laws.number (any_order entry_of) entry_fields (FitsAny HasEntryLine AreEntryNumbers) (any_form entry_of entry_fields HasEntryLine AreEntryNumbers laws.entries)
-    (codes "journal") list roles.read rest numbers.3 (any_fit HasEntryLine AreEntryNumbers None list has.4 numbers.4) in
+    let journal = section_again laws.counts (any_order entry_of) entry_fields (FitsAny HasEntryLine AreEntryNumbers) (any_form entry_of entry_fields HasEntryLine AreEntryNumbers laws.entries)
+    (codes "journal") refl list roles.read rest numbers.3 (any_fit HasEntryLine AreEntryNumbers None list has.4 numbers.4) in
     let start : List Fields → At = λ l. record { read = read; lines = l } in
     record {
       read = journal.read;
@@ -215,7 +218,7 @@ refusal_back : LineLaws → (p : Part) (at : At) (found : Body × At) → refusa
 unfolding refusal
 refusal_back laws p at found e =
     let j = bound (section (codes "steps") (any_order step_of) at) (λ steps. Ok (body.Refusal steps.0, steps.1)) found e in
-    let list = section_back laws.number (any_order step_of) step_fields (FitsAny HasStepLine AreStepNumbers) (any_form step_of step_fields HasStepLine AreStepNumbers laws.steps) (codes "steps") at j.found j.is in
+    let list = section_back laws.counts (any_order step_of) step_fields (FitsAny HasStepLine AreStepNumbers) (any_form step_of step_fields HasStepLine AreStepNumbers laws.steps) (codes "steps") refl at j.found j.is in
     let parts = any_parts HasStepLine AreStepNumbers None j.found.0 list.fit in
     let made : Body × At = (body.Refusal j.found.0, j.found.1) in
     subst (λ f. IsBody (kind.Refusal p) at.lines f) (ok_is made found j.later) (record { whole = list.whole; has = parts.0; numbers = (list.count, parts.1); plain = refl })
@@ -228,8 +231,8 @@ refusal_again : LineLaws → (p : Part) (steps : List Step) (read : ℕ) (rest :
     → Again (refusal (record { read = read; lines = section_lines (codes "steps") step_fields steps ++ rest })) (body.Refusal steps) rest
 unfolding refusal
 refusal_again laws p steps read rest has numbers =
-    let list = section_again laws.number (any_order step_of) step_fields (FitsAny HasStepLine AreStepNumbers) (any_form step_of step_fields HasStepLine AreStepNumbers laws.steps)
-    (codes "steps") steps read rest numbers.0 (any_fit HasStepLine AreStepNumbers None steps has numbers.1) in
+    let list = section_again laws.counts (any_order step_of) step_fields (FitsAny HasStepLine AreStepNumbers) (any_form step_of step_fields HasStepLine AreStepNumbers laws.steps)
+    (codes "steps") refl steps read rest numbers.0 (any_fit HasStepLine AreStepNumbers None steps has numbers.1) in
     record { read = list.read; is = ap (λ r. r >>= λ steps. Ok (body.Refusal steps.0, steps.1)) list.is }
 
 pub body_again : LineLaws → (k : Kind) (b : Body) (read : ℕ) (rest : List Fields) → HasBodyText k b → AreBodyNumbers b

@@ -1,7 +1,6 @@
 -- The bytes of a text, both ways.
-use Rattle.std.proofs.Common.{◌≡◌, ◌≢◌, ℕ, Bool, true, false, cond, List, [], ◌∷◌, ◌++◌, Result, Ok, Err, refl, sym, ap, subst, ◌∙◌, append_assoc}
-use Rattle.std.specs.Prelude.{codes, ⊤, IfOk}
-use Rattle.std.specs.List.{AllByRecursion, slice_split}
+use Rattle.std.proofs.Common.{◌≡◌, ◌≢◌, ℕ, Bool, true, false, cond, List, [], ◌∷◌, ◌++◌, Ok, Err, refl, sym, ap, subst, ◌∙◌, append_assoc}
+use Rattle.std.specs.List.{AllByRecursion}
 use Rattle.std.proofs.lemmas.List.{append-nil}
 use Rattle.std.proofs.lemmas.List.Concat.{flat_map-cons}
 use Rattle.std.proofs.lemmas.List.Splits.{slice_split_at}
@@ -10,14 +9,13 @@ use Rattle.byte_words.specs.Bytes.{is_line_feed}
 use Rattle.byte_words.specs.Lists.{AllFailing}
 use Rattle.line_fields.specs.Lines.{Fields, line, text_of, joined, IsLine}
 use Rattle.line_fields.specs.Reading.{At, fields_of, lines_of}
-use Rattle.evidence_text.specs.declared.types.EvidenceFault.{EvidenceFault}
 use Rattle.evidence_text.specs.declared.types.EvidenceFault.TheVariants.{Version}
 use Rattle.evidence_text.specs.declared.types.Evidence.{Evidence}
-use Rattle.evidence_text.specs.EvidenceText.{version_fields, kind_fields, lists_lines, body_lines, end_fields, evidence_lines, evidence_text, HasText, IsEvidenceValue, plain}
-use Rattle.evidence_text.specs.FirstLines.{is_other_version}
+use Rattle.evidence_text.specs.EvidenceText.{lists_lines, body_lines, evidence_lines, evidence_text, HasText, IsEvidenceValue, plain}
+use Rattle.evidence_lines.specs.FirstLines.{version_fields, kind_fields, end_fields, is_other_version}
 use Rattle.evidence_text.specs.Reading.{lines_read, first_of, first_piece, text_read}
 use Rattle.evidence_text.proofs.BodyLaws.{LineLaws}
-use Rattle.evidence_text.proofs.TextLaws.{IsWhole, lines_back, lines_again}
+use Rattle.evidence_text.proofs.TextLaws.{lines_back, lines_again}
 use Rattle.evidence_text.proofs.FormLaws.{evidence_line}
 
 -- lines are read as they are written, and a text is what its lines are written as

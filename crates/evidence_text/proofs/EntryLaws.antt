@@ -1,11 +1,10 @@
 -- Reading entries one after another, as a loop does.
-use Rattle.std.proofs.Common.{◌≡◌, ℕ, zero, suc, ◌-◌, ◌+◌, ◌≤◌, ◌<◌, List, [], ◌∷◌, ◌++◌, length, Option, Some, None, Result, Ok, Err, refl, sym, ap, ◌∙◌, append_assoc, arith, slice_get}
+use Rattle.std.proofs.Common.{◌≡◌, ℕ, suc, ◌-◌, ◌+◌, ◌≤◌, ◌<◌, List, [], ◌∷◌, ◌++◌, length, Option, Some, None, Ok, Err, refl, sym, ap, ◌∙◌, append_assoc, arith, slice_get}
 use Rattle.std.proofs.lemmas.List.{append-nil, length-append}
 use Rattle.line_fields.specs.Lines.{Fields}
 use Rattle.line_fields.specs.Reading.{At}
-use Rattle.evidence_text.specs.declared.types.EvidenceFault.{EvidenceFault}
-use Rattle.evidence_text.specs.declared.types.EvidenceFault.TheVariants.{Version, Line, Length, OutOfMemory}
-use Rattle.evidence_text.specs.Reading.{Read, ◌>>=◌, of_form, line_by, next_line, entries, FailsRead, GivesRead}
+use Rattle.evidence_text.specs.declared.types.EvidenceFault.TheVariants.{Line, Length}
+use Rattle.evidence_text.specs.Reading.{Read, ◌>>=◌, entries}
 use Rattle.evidence_text.specs.Inside.Loops.{with_front, last_of}
 
 regroup : {X : Type 0} → (front : List X) (x : X) (read : Read (List X)) → with_front front (read >>= λ xs. Ok (x ∷ xs.0, xs.1)) ≡ with_front (front ++ x ∷ []) read

@@ -1,66 +1,43 @@
 -- Each line of evidence is fields without a space and a line feed.
-use Rattle.std.proofs.Common.{◌≡◌, ◌≢◌, ℕ, ◌+◌, ◌^◌, ◌<◌, ◌&&◌, Bool, true, false, not, List, [], ◌∷◌, ◌++◌, length, map, Option, Some, None, refl, sym, subst, arith}
-use Rattle.std.specs.Prelude.{codes, decimal, ⊤}
-use Rattle.std.specs.List.{AllByRecursion, list_all, flat_map}
+use Rattle.std.proofs.Common.{◌≡◌, ℕ, ◌+◌, ◌^◌, ◌<◌, true, List, [], ◌∷◌, ◌++◌, length, Option, None, refl, sym, subst}
+use Rattle.std.specs.Prelude.{codes}
+use Rattle.std.specs.List.{AllByRecursion, flat_map}
 use Rattle.std.proofs.lemmas.List.Concat.{flat_map-cons}
-use Rattle.el_logic.specs.declared.types.Part.{Part}
-use Rattle.el_logic.specs.declared.types.Part.TheVariants as part
-use Rattle.line_fields.specs.Lines.{Fields, parts_fields, IsField, IsLine}
-use Rattle.evidence_lines.specs.LineLaw.{AreLinesOf}
+use Rattle.line_fields.specs.Lines.{Fields, IsLine}
 use Rattle.evidence_lines.specs.Steps.{step_fields, HasStepLine, AreStepNumbers}
 use Rattle.evidence_lines.specs.StepReading.{step_of}
 use Rattle.evidence_lines.specs.Names.{node_fields, role_fields, HasNodeLine, HasRoleLine, node_of, role_of, IsNodeValue, IsRoleValue}
 use Rattle.evidence_lines.specs.Omitted.{omitted_fields}
 use Rattle.evidence_lines.specs.Journal.{entry_fields, HasEntryLine, entry_of, AreEntryNumbers}
 use Rattle.evidence_lines.specs.Model.{class_fields, property_fields, HasClassLine, HasPropertyLine, AreElementNumbers, ArePairNumbers}
-use Rattle.evidence_text.specs.declared.types.Kind.{Kind}
-use Rattle.evidence_text.specs.declared.types.Kind.TheVariants as kind
+use Rattle.evidence_lines.specs.declared.types.Kind.{Kind}
+use Rattle.evidence_lines.specs.declared.types.Kind.TheVariants as kind
 use Rattle.evidence_text.specs.declared.types.Removed.{Removed}
 use Rattle.evidence_text.specs.declared.types.Body.{Body}
 use Rattle.evidence_text.specs.declared.types.Body.TheVariants as body
 use Rattle.evidence_text.specs.declared.types.Evidence.{Evidence}
-use Rattle.evidence_text.specs.EvidenceText.{version_fields, kind_fields, part_word, numbered, section_lines, omitted_list, row_fields, removed_lines, rows_lines, lines_from, model_lines, lists_lines, body_lines, end_fields, evidence_lines, HaveLinesFrom, HasBodyText, HasText, AreRemovedNumbers, AreBodyNumbers, IsEvidenceValue}
+use Rattle.evidence_lines.specs.FirstLines.{is_plain, end_fields}
+use Rattle.evidence_text.specs.EvidenceText.{section_lines, omitted_list, removed_lines, rows_lines, lines_from, model_lines, body_lines, evidence_lines, HaveLinesFrom, HasBodyText, HasText, AreRemovedNumbers, AreBodyNumbers, IsEvidenceValue}
 use Rattle.evidence_text.specs.Reading.{any_order, ordered_omitted}
-use Rattle.evidence_text.proofs.OptionLaws.{NumberLaw}
-use Rattle.evidence_text.proofs.SectionLaws.{IsForm, AllFit, entries_line, FitsAny, any_form, any_fit}
+use Rattle.evidence_text.proofs.SectionLaws.{CountLaw, IsForm, AllFit, entries_line, FitsAny, any_form, any_fit}
 use Rattle.evidence_text.proofs.BodyLaws.{LineLaws}
 use Rattle.evidence_text.proofs.TextLaws.{FitsOmitted, omitted_form, omitted_fit}
 
 abbrev AreLines : List Fields → Type 0
 AreLines lines = AllByRecursion IsLine lines
 
-both_true : (x y : Bool) → (x && y) ≡ true → (x ≡ true) × (y ≡ true)
-both_true true y e = (refl, e)
-both_true false y e = absurd cc
-
-not_true : (x : Bool) → not x ≡ true → x ≡ false
-not_true true e = absurd cc
-not_true false e = refl
-
-word : (bytes : List ℕ) → list_all (λ b. not (parts_fields b)) bytes ≡ true → IsField bytes
-word [] e = tt
-word (b ∷ bs) e = let h = both_true (not (parts_fields b)) (list_all (λ b. not (parts_fields b)) bs) e in (not_true (parts_fields b) h.0, word bs h.1)
-
-not_nil : (field : List ℕ) (fields : Fields) → (field ∷ fields) ≢ []
-not_nil field fields e = absurd cc
-
+-- lines, one list after another
 lines-append : (lines more : List Fields) → AreLines lines → AreLines more → AreLines (lines ++ more)
 lines-append [] more each later = later
 lines-append (l ∷ lines) more each later = (each.0, lines-append lines more each.1 later)
 
-numbered_line : NumberLaw → (w : List ℕ) (n : ℕ) → IsField w → n < 2 ^ 64 → IsLine (numbered w n)
-numbered_line law w n plain below = record { some = not_nil w (decimal n ∷ []); each = (plain, (law.field n below, tt)) }
-
-section_line : NumberLaw → {X : Type 0} → (form : Option X → Fields → Option X) (spell : X → Fields) (Fits : Option X → X → Type 0) → IsForm form spell Fits
-    → (w : List ℕ) (xs : List X) → IsField w → length xs < 2 ^ 64 → AllFit Fits None xs → AreLines (section_lines w spell xs)
-section_line law form spell Fits forms w xs plain below fit = (numbered_line law w (length xs) plain below, entries_line form spell Fits forms None xs fit)
+section_line : CountLaw → {X : Type 0} → (form : Option X → Fields → Option X) (spell : X → Fields) (Fits : Option X → X → Type 0) → IsForm form spell Fits
+    → (w : List ℕ) (xs : List X) → is_plain w ≡ true → length xs < 2 ^ 64 → AllFit Fits None xs → AreLines (section_lines w spell xs)
+section_line law form spell Fits forms w xs plain below fit = ((law w plain).line (length xs) tt below, entries_line form spell Fits forms None xs fit)
 
 removed_line : LineLaws → (r : Removed) → AllByRecursion HasStepLine r.steps → AreRemovedNumbers r → AreLines (removed_lines r)
 removed_line laws r has numbers = (
-  record {
-    some = not_nil (codes "row") (decimal r.row ∷ codes "steps" ∷ decimal (length r.steps) ∷ []);
-    each = (word (codes "row") refl, (laws.number.field r.row (omega (arith, numbers.row)), (word (codes "steps") refl, (laws.number.field (length r.steps) numbers.count, tt))));
-  },
+  (laws.rows None).line (r.row, length r.steps) refl (numbers.row, numbers.count),
   entries_line (any_order step_of) step_fields (FitsAny HasStepLine AreStepNumbers) (any_form step_of step_fields HasStepLine AreStepNumbers laws.steps) None r.steps
       (any_fit HasStepLine AreStepNumbers None r.steps has numbers.steps),
 )
@@ -81,49 +58,36 @@ properties_line laws place (x ∷ xs) has is = ((laws.properties place).line x h
 body_line : LineLaws → (k : Kind) (b : Body) → HasBodyText k b → AreBodyNumbers b → AreLines (body_lines b)
 body_line laws kind.Diagnosis (body.Diagnosis removed model journal) has is =
     lines-append (rows_lines removed) (model_lines model ++ section_lines (codes "journal") entry_fields journal.entries)
-    (numbered_line laws.number (codes "removed") (length removed) (word (codes "removed") refl) is.0, each_line laws removed has.1 is.1)
+    ((laws.counts (codes "removed") refl).line (length removed) tt is.0, each_line laws removed has.1 is.1)
     (lines-append (model_lines model) (section_lines (codes "journal") entry_fields journal.entries) (
-      numbered_line laws.number (codes "model") model.size (word (codes "model") refl) (omega (arith, is.2.size)),
+      laws.size.line model.size tt is.2.size,
       lines-append (lines_from class_fields 0 model.classes) (lines_from property_fields 0 model.roles) (classes_line laws 0 model.classes has.2 is.2.classes) (properties_line laws 0 model.roles has.3 is.2.roles),
     )
-    (section_line laws.number (any_order entry_of) entry_fields (FitsAny HasEntryLine AreEntryNumbers) (any_form entry_of entry_fields HasEntryLine AreEntryNumbers laws.entries)
-    (codes "journal") journal.entries (word (codes "journal") refl) is.3 (any_fit HasEntryLine AreEntryNumbers None journal.entries has.4 is.4)))
+    (section_line laws.counts (any_order entry_of) entry_fields (FitsAny HasEntryLine AreEntryNumbers) (any_form entry_of entry_fields HasEntryLine AreEntryNumbers laws.entries)
+    (codes "journal") journal.entries refl is.3 (any_fit HasEntryLine AreEntryNumbers None journal.entries has.4 is.4)))
 body_line laws kind.Diagnosis (body.Refusal steps) has is = absurd has
 body_line laws (kind.Refusal p) (body.Diagnosis removed model journal) has is = absurd has
 body_line laws (kind.Refusal p) (body.Refusal steps) has is =
-    section_line laws.number (any_order step_of) step_fields (FitsAny HasStepLine AreStepNumbers) (any_form step_of step_fields HasStepLine AreStepNumbers laws.steps)
-    (codes "steps") steps (word (codes "steps") refl) is.0 (any_fit HasStepLine AreStepNumbers None steps has is.1)
+    section_line laws.counts (any_order step_of) step_fields (FitsAny HasStepLine AreStepNumbers) (any_form step_of step_fields HasStepLine AreStepNumbers laws.steps)
+    (codes "steps") steps refl is.0 (any_fit HasStepLine AreStepNumbers None steps has is.1)
 
-part_line : (p : Part) → IsField (part_word p)
-part_line part.Left = word (codes "left") refl
-part_line part.Right = word (codes "right") refl
-part_line part.Both = word (codes "both") refl
-
-kind_line : (k : Kind) → IsLine (kind_fields k)
-kind_line kind.Diagnosis = record { some = not_nil (codes "diagnosis") []; each = (word (codes "diagnosis") refl, tt) }
-kind_line (kind.Refusal p) = record { some = not_nil (codes "refusal") (part_word p ∷ []); each = (word (codes "refusal") refl, (part_line p, tt)) }
-
+-- all lines of evidence
 pub evidence_line : LineLaws → (e : Evidence) → HasText e → IsEvidenceValue e → AreLines (evidence_lines e)
 evidence_line laws e has is =
-    let version : IsLine version_fields = record {
-      some = not_nil (codes "alod") (codes "evidence" ∷ codes "1" ∷ []);
-      each = (word (codes "alod") refl, (word (codes "evidence") refl, (word (codes "1") refl, tt)));
-    } in
-    let end : IsLine end_fields = record { some = not_nil (codes "end") []; each = (word (codes "end") refl, tt) } in
     let O = section_lines (codes "omitted") omitted_fields (omitted_list e.omitted) in
     let N = section_lines (codes "nodes") node_fields e.nodes in
     let R = section_lines (codes "roles") role_fields e.roles in
-    let os = section_line laws.number ordered_omitted omitted_fields FitsOmitted (omitted_form laws) (codes "omitted") (omitted_list e.omitted) (word (codes "omitted") refl) is.omitted_count
+    let os = section_line laws.counts ordered_omitted omitted_fields FitsOmitted (omitted_form laws) (codes "omitted") (omitted_list e.omitted) refl is.omitted_count
     (omitted_fit None (omitted_list e.omitted) has.omitted is.omitted) in
-    let ns = section_line laws.number (any_order node_of) node_fields (FitsAny HasNodeLine IsNodeValue) (any_form node_of node_fields HasNodeLine IsNodeValue laws.nodes) (codes "nodes") e.nodes (word (codes "nodes") refl) is.nodes_count
+    let ns = section_line laws.counts (any_order node_of) node_fields (FitsAny HasNodeLine IsNodeValue) (any_form node_of node_fields HasNodeLine IsNodeValue laws.nodes) (codes "nodes") e.nodes refl is.nodes_count
     (any_fit HasNodeLine IsNodeValue None e.nodes has.nodes is.nodes) in
-    let rs = section_line laws.number (any_order role_of) role_fields (FitsAny HasRoleLine IsRoleValue) (any_form role_of role_fields HasRoleLine IsRoleValue laws.roles) (codes "roles") e.roles (word (codes "roles") refl) is.roles_count
+    let rs = section_line laws.counts (any_order role_of) role_fields (FitsAny HasRoleLine IsRoleValue) (any_form role_of role_fields HasRoleLine IsRoleValue laws.roles) (codes "roles") e.roles refl is.roles_count
     (any_fit HasRoleLine IsRoleValue None e.roles has.roles is.roles) in (
-      version,
+      laws.version.line tt tt tt,
       (
-        kind_line e.kind,
+        laws.kinds.line e.kind tt tt,
         lines-append (O ++ (N ++ R)) (body_lines e.body ++ end_fields ∷ [])
             (lines-append O (N ++ R) os (lines-append N R ns rs))
-            (lines-append (body_lines e.body) (end_fields ∷ []) (body_line laws e.kind e.body has.body is.body) (end, tt)),
+            (lines-append (body_lines e.body) (end_fields ∷ []) (body_line laws e.kind e.body has.body is.body) (laws.end.line tt tt tt, tt)),
       ),
     )

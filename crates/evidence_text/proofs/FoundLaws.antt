@@ -1,14 +1,15 @@
 -- What a call answers is what the text is.
-use Rattle.std.proofs.Common.{◌≡◌, ℕ, List, [], ◌∷◌, ◌++◌, Result, Ok, Err, refl, sym, ap, subst, ◌∙◌}
+use Rattle.std.proofs.Common.{◌≡◌, ℕ, List, [], ◌∷◌, ◌++◌, Result, Ok, Err, refl, ap, ◌∙◌}
 use Rattle.std.specs.Prelude.{IfOk}
 use Rattle.evidence_text.specs.declared.types.EvidenceFault.{EvidenceFault}
-use Rattle.evidence_text.specs.declared.types.Kind.{Kind}
-use Rattle.evidence_text.specs.declared.types.Kind.TheVariants as kind
+use Rattle.evidence_lines.specs.declared.types.Kind.{Kind}
+use Rattle.evidence_lines.specs.declared.types.Kind.TheVariants as kind
 use Rattle.evidence_text.specs.declared.types.Body.{Body}
 use Rattle.evidence_text.specs.declared.types.Body.TheVariants as body
 use Rattle.evidence_text.specs.declared.types.Evidence.{Evidence}
 use Rattle.line_fields.specs.Lines.{text_of}
-use Rattle.evidence_text.specs.EvidenceText.{version_fields, kind_fields, lists_lines, body_lines, end_fields, evidence_text, HasBodyText, HasText, IsEvidenceValue, plain, plain_body}
+use Rattle.evidence_lines.specs.FirstLines.{version_fields, kind_fields, end_fields}
+use Rattle.evidence_text.specs.EvidenceText.{lists_lines, body_lines, evidence_text, HasBodyText, HasText, IsEvidenceValue, plain, plain_body}
 use Rattle.evidence_text.specs.Reading.{text_read, GivesRead}
 
 same_lines : (b : Body) → body_lines (plain_body b) ≡ body_lines b

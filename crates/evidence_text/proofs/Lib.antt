@@ -1,5 +1,4 @@
 pub mod EntryLaws
-pub mod OptionLaws
 pub mod SectionLaws
 pub mod WholeLaws
 pub mod RowLaws

@@ -1,15 +1,13 @@
 -- Reading removed rows one after another, as a loop does.
-use Rattle.std.proofs.Common.{◌≡◌, ℕ, zero, suc, ◌-◌, ◌+◌, ◌≤◌, ◌<◌, List, [], ◌∷◌, ◌++◌, length, Option, Some, None, Result, Ok, Err, refl, sym, ap, ◌∙◌, append_assoc, arith}
-use Rattle.std.specs.Prelude.{⊤}
+use Rattle.std.proofs.Common.{◌≡◌, ℕ, suc, ◌-◌, ◌≤◌, ◌<◌, List, [], ◌∷◌, ◌++◌, length, Option, Some, None, Result, Ok, Err, refl, sym, ap, ◌∙◌, append_assoc, arith}
 use Rattle.std.proofs.lemmas.List.{append-nil, length-append}
 use Rattle.derivation.specs.declared.types.Step.{Step}
-use Rattle.line_fields.specs.Lines.{Fields}
 use Rattle.line_fields.specs.Reading.{At}
 use Rattle.evidence_lines.specs.StepReading.{step_of}
 use Rattle.evidence_text.specs.declared.types.EvidenceFault.{EvidenceFault}
 use Rattle.evidence_text.specs.declared.types.EvidenceFault.TheVariants.{Version, Line, Length, OutOfMemory}
 use Rattle.evidence_text.specs.declared.types.Removed.{Removed}
-use Rattle.evidence_text.specs.FirstLines.{row_of}
+use Rattle.evidence_lines.specs.FirstLines.{row_of}
 use Rattle.evidence_text.specs.Reading.{Read, ◌>>=◌, next_line, entries, any_order, rows, FailsRead}
 use Rattle.evidence_text.specs.Inside.Loops.{with_front}
 

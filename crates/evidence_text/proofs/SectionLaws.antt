@@ -1,20 +1,19 @@
 -- Sections are read as what they spell, and as nothing else.
-use Rattle.std.proofs.Common.{◌≡◌, ◌≢◌, ℕ, zero, suc, ◌+◌, ◌^◌, ◌<◌, Bool, true, false, cond, List, [], ◌∷◌, ◌++◌, length, map, Option, Some, None, Result, Ok, Err, refl, sym, ap, subst, ◌∙◌, arith}
-use Rattle.std.specs.Prelude.{codes, decimal, bytes_eq, ⊤}
+use Rattle.std.proofs.Common.{◌≡◌, ℕ, zero, suc, ◌+◌, ◌^◌, ◌<◌, true, List, [], ◌∷◌, ◌++◌, length, map, Option, Some, None, Result, Ok, Err, refl, sym, ap, subst, ◌∙◌}
+use Rattle.std.specs.Prelude.{⊤}
 use Rattle.std.specs.List.{AllByRecursion}
-use Rattle.std.specs.Cmp.Lexicographic.{bytes_decides}
-use Rattle.line_fields.specs.Lines.{Fields, IsField, IsLine}
-use Rattle.line_fields.specs.Numbers.{long_number, short_number}
-use Rattle.line_fields.specs.Reading.{At, long_in, short_in, is_end}
-use Rattle.evidence_lines.specs.Model.{after_word}
-use Rattle.evidence_lines.specs.Names.{if_end}
+use Rattle.line_fields.specs.Lines.{Fields, IsLine}
+use Rattle.line_fields.specs.Reading.{At}
 use Rattle.evidence_lines.specs.LineLaw.{AreLinesOf}
 use Rattle.evidence_text.specs.declared.types.EvidenceFault.{EvidenceFault}
-use Rattle.evidence_text.specs.declared.types.EvidenceFault.TheVariants.{Version, Line, Length, OutOfMemory}
-use Rattle.evidence_text.specs.EvidenceText.{numbered, section_lines}
-use Rattle.evidence_text.specs.FirstLines.{count_of}
+use Rattle.evidence_text.specs.declared.types.EvidenceFault.TheVariants.{Length}
+use Rattle.evidence_text.specs.EvidenceText.{section_lines}
+use Rattle.evidence_lines.specs.FirstLines.{numbered, count_of, is_plain}
 use Rattle.evidence_text.specs.Reading.{Read, ◌>>=◌, of_form, line_by, next_line, first_line, entries, section, any_order}
-use Rattle.evidence_text.proofs.OptionLaws.{NumberLaw, count_is, count_again}
+
+-- what is known of the first lines of sections
+abbrev pub CountLaw : Type 0
+CountLaw = (word : List ℕ) → is_plain word ≡ true → AreLinesOf (count_of word) (numbered word) (λ n. ⊤) (λ n. n < 2 ^ 64)
 
 -- what a step gave, and what was made of it
 pub record Bound {A B : Type 0} (r : Result A EvidenceFault) (next : A → Result B EvidenceFault) (b : B) : Type 0 where
@@ -120,26 +119,26 @@ pub record IsSection {X : Type 0} (word : List ℕ) (spell : X → Fields) (Fits
   pub count : length found.0 < 2 ^ 64
   pub fit : AllFit Fits None found.0
 
-pub section_back : NumberLaw → {X : Type 0} → (form : Option X → Fields → Option X) (spell : X → Fields) (Fits : Option X → X → Type 0) → IsForm form spell Fits
-    → (word : List ℕ) (at : At) (found : List X × At) → section word form at ≡ Ok found → IsSection word spell Fits at.lines found
+pub section_back : CountLaw → {X : Type 0} → (form : Option X → Fields → Option X) (spell : X → Fields) (Fits : Option X → X → Type 0) → IsForm form spell Fits
+    → (word : List ℕ) → is_plain word ≡ true → (at : At) (found : List X × At) → section word form at ≡ Ok found → IsSection word spell Fits at.lines found
 unfolding section
-section_back law form spell Fits forms word at found e =
+section_back law form spell Fits forms word plain at found e =
     let n = bound (first_line (count_of word) at) (λ n. entries form (at.read + 1) n.0 None n.1) found e in
     let next = next_is (count_of word) (Length at.read) at n.found n.is in
-    let count = count_is law word next.fields n.found.0 next.is in
+    let count = (law word plain).back next.fields n.found.0 next.is in
     let list = entries_back form spell Fits forms (at.read + 1) n.found.0 None n.found.1 found n.later in
     record {
       whole = next.lines ∙ ap (λ f. f ∷ n.found.1.lines) count.0 ∙ ap (λ k. numbered word k ∷ n.found.1.lines) (sym list.count_is) ∙ ap (λ l. numbered word (length found.0) ∷ l) list.whole;
-      count = rw list.count_is count.1;
+      count = rw list.count_is count.2;
       fit = list.fit;
     }
 
-pub section_again : NumberLaw → {X : Type 0} → (form : Option X → Fields → Option X) (spell : X → Fields) (Fits : Option X → X → Type 0) → IsForm form spell Fits
-    → (word : List ℕ) (xs : List X) (read : ℕ) (rest : List Fields) → length xs < 2 ^ 64 → AllFit Fits None xs
+pub section_again : CountLaw → {X : Type 0} → (form : Option X → Fields → Option X) (spell : X → Fields) (Fits : Option X → X → Type 0) → IsForm form spell Fits
+    → (word : List ℕ) → is_plain word ≡ true → (xs : List X) (read : ℕ) (rest : List Fields) → length xs < 2 ^ 64 → AllFit Fits None xs
     → Again (section word form (record { read = read; lines = section_lines word spell xs ++ rest })) xs rest
 unfolding section
-section_again law form spell Fits forms word xs read rest below fit =
-    let one = next_again (count_of word) (Length read) read (numbered word (length xs)) (map spell xs ++ rest) (length xs) (count_again law word (length xs) below) in
+section_again law form spell Fits forms word plain xs read rest below fit =
+    let one = next_again (count_of word) (Length read) read (numbered word (length xs)) (map spell xs ++ rest) (length xs) ((law word plain).again (length xs) tt below) in
     let later = entries_again form spell Fits forms (read + 1) None xs (read + 1) rest fit in
     record { read = later.read; is = ap (λ r. r >>= λ n. entries form (read + 1) n.0 None n.1) one ∙ later.is }
 

@@ -1,34 +1,27 @@
 -- The text of evidence is read as the evidence, and what is read has the text.
-use Rattle.std.proofs.Common.{◌≡◌, ◌≢◌, ℕ, ◌+◌, ◌^◌, ◌<◌, ◌==◌, Bool, true, false, cond, List, [], ◌∷◌, ◌++◌, length, map, Option, Some, None, Result, Ok, Err, refl, sym, ap, subst, ◌∙◌, append_assoc}
-use Rattle.std.specs.Prelude.{codes, decimal, ⊤, IfOk}
-use Rattle.std.specs.List.{AllByRecursion, flat_map, slice_split}
-use Rattle.std.proofs.lemmas.List.{append-nil}
-use Rattle.std.proofs.lemmas.List.Concat.{flat_map-cons}
-use Rattle.std.proofs.lemmas.List.Splits.{slice_split_at}
-use Rattle.std.proofs.lemmas.List.Elements.{All-from_recursion}
+use Rattle.std.proofs.Common.{◌≡◌, ℕ, ◌^◌, ◌<◌, Bool, true, false, cond, List, [], ◌∷◌, ◌++◌, length, map, Option, Some, None, Result, Ok, refl, sym, ap, subst, ◌∙◌, append_assoc}
+use Rattle.std.specs.Prelude.{codes}
+use Rattle.std.specs.List.{AllByRecursion}
 use Rattle.el_logic.specs.declared.types.Side.{Side}
 use Rattle.el_logic.specs.declared.types.Side.TheVariants as side
 use Rattle.ofn_axiom.specs.declared.types.Omitted.{Omitted}
-use Rattle.ofn_axiom.specs.declared.types.SideOmitted.{SideOmitted}
-use Rattle.byte_words.specs.Bytes.{is_line_feed}
-use Rattle.line_fields.specs.Lines.{Fields, line, text_of, joined, IsLine}
-use Rattle.line_fields.specs.Reading.{At, fields_of, lines_of}
+use Rattle.line_fields.specs.Lines.{Fields}
+use Rattle.line_fields.specs.Reading.{At}
 use Rattle.evidence_lines.specs.declared.types.SidedOmitted.{SidedOmitted}
 use Rattle.evidence_lines.specs.declared.types.NodeLine.{NodeLine}
 use Rattle.evidence_lines.specs.declared.types.RoleLine.{RoleLine}
 use Rattle.evidence_lines.specs.Names.{node_fields, role_fields, HasNodeLine, HasRoleLine, node_of, role_of, IsNodeValue, IsRoleValue}
 use Rattle.evidence_lines.specs.Omitted.{omitted_fields, omitted_of, omitted_before, ArePlaceNumbers}
 use Rattle.evidence_text.specs.declared.types.EvidenceFault.{EvidenceFault}
-use Rattle.evidence_text.specs.declared.types.EvidenceFault.TheVariants.{Version, Line, Length, OutOfMemory}
-use Rattle.evidence_text.specs.declared.types.Kind.{Kind}
+use Rattle.evidence_text.specs.declared.types.EvidenceFault.TheVariants.{Line, Length}
+use Rattle.evidence_lines.specs.declared.types.Kind.{Kind}
 use Rattle.evidence_text.specs.declared.types.Body.{Body}
 use Rattle.evidence_text.specs.declared.types.Evidence.{Evidence}
-use Rattle.evidence_text.specs.EvidenceText.{version_fields, kind_fields, section_lines, of_side, omitted_list, lists_lines, body_lines, end_fields, evidence_lines, evidence_text, InOrder, HasText, IsEvidenceValue, plain, plain_body}
-use Rattle.evidence_text.specs.FirstLines.{version_of, kind_of, end_of, is_other_version}
-use Rattle.evidence_text.specs.Reading.{Read, ◌>>=◌, next_line, first_line, section, any_order, may_follow, if_may_follow, ordered_omitted, on_side, by_side, body_by, no_more, ended, lines_read, first_of, first_piece, text_read}
-use Rattle.evidence_text.proofs.OptionLaws.{kind_is, kind_again, version_is, end_line_is}
-use Rattle.evidence_text.proofs.SectionLaws.{Bound, bound, ok_is, next_is, Again, next_again, IsForm, AllFit, IsSection, section_back, section_again, FitsAny, any_form, any_fit, any_parts}
-use Rattle.evidence_text.proofs.BodyLaws.{LineLaws, IsBody, body_back, body_again}
+use Rattle.evidence_text.specs.EvidenceText.{section_lines, of_side, omitted_list, body_lines, evidence_lines, InOrder, HasText, IsEvidenceValue, plain, plain_body}
+use Rattle.evidence_lines.specs.FirstLines.{version_fields, kind_fields, end_fields, version_of, kind_of, end_of}
+use Rattle.evidence_text.specs.Reading.{◌>>=◌, next_line, first_line, section, any_order, may_follow, if_may_follow, ordered_omitted, on_side, by_side, body_by, no_more, ended, lines_read}
+use Rattle.evidence_text.proofs.SectionLaws.{bound, ok_is, next_is, next_again, IsForm, AllFit, section_back, section_again, FitsAny, any_form, any_fit, any_parts}
+use Rattle.evidence_text.proofs.BodyLaws.{LineLaws, body_back, body_again}
 
 -- ---- axioms that are left out
 
@@ -132,12 +125,12 @@ record IsEnded (made e : Evidence) (lines : List Fields) : Type 0 where
   whole : lines ≡ end_fields ∷ []
   same : made ≡ e
 
-ended_is : (made e : Evidence) (at : At) → ended made at ≡ Ok e → IsEnded made e at.lines
-ended_is made e at is =
+ended_is : LineLaws → (made e : Evidence) (at : At) → ended made at ≡ Ok e → IsEnded made e at.lines
+ended_is laws made e at is =
     let end = bound (first_line end_of at) (λ end. no_more made end.1.read end.1.lines) e is in
     let next = next_is end_of (Length at.read) at end.found end.is in
     let last = no_more_is made e end.found.1.read end.found.1.lines end.later in
-    record { whole = next.lines ∙ ap (λ f. f ∷ end.found.1.lines) (end_line_is next.fields end.found.0 next.is) ∙ ap (λ l. end_fields ∷ l) last.0; same = last.1 }
+    record { whole = next.lines ∙ ap (λ f. f ∷ end.found.1.lines) (laws.end.back next.fields end.found.0 next.is).0 ∙ ap (λ l. end_fields ∷ l) last.0; same = last.1 }
 
 ended_again : (e : Evidence) (read : ℕ) → ended e (record { read = read; lines = end_fields ∷ [] }) ≡ Ok e
 ended_again e read = refl
@@ -161,12 +154,12 @@ lines_back laws at e eq =
     let r = bound (section (codes "roles") (any_order role_of) n.found.1) (after_roles k.found.0 o.found.0 n.found.0) e n.later in
     let b = bound (body_by k.found.0 r.found.1) (λ body. ended (made_of k.found.0 o.found.0 n.found.0 r.found.0 body.0) body.1) e r.later in
     let made = made_of k.found.0 o.found.0 n.found.0 r.found.0 b.found.0 in
-    let end = ended_is made e b.found.1 b.later in
+    let end = ended_is laws made e b.found.1 b.later in
     let vn = next_is version_of (Line 1) at v.found v.is in
     let kn = next_is kind_of (Length v.found.1.read) v.found.1 k.found k.is in
-    let os = section_back laws.number ordered_omitted omitted_fields FitsOmitted (omitted_form laws) (codes "omitted") k.found.1 o.found o.is in
-    let ns = section_back laws.number (any_order node_of) node_fields (FitsAny HasNodeLine IsNodeValue) (any_form node_of node_fields HasNodeLine IsNodeValue laws.nodes) (codes "nodes") o.found.1 n.found n.is in
-    let rs = section_back laws.number (any_order role_of) role_fields (FitsAny HasRoleLine IsRoleValue) (any_form role_of role_fields HasRoleLine IsRoleValue laws.roles) (codes "roles") n.found.1 r.found r.is in
+    let os = section_back laws.counts ordered_omitted omitted_fields FitsOmitted (omitted_form laws) (codes "omitted") refl k.found.1 o.found o.is in
+    let ns = section_back laws.counts (any_order node_of) node_fields (FitsAny HasNodeLine IsNodeValue) (any_form node_of node_fields HasNodeLine IsNodeValue laws.nodes) (codes "nodes") refl o.found.1 n.found n.is in
+    let rs = section_back laws.counts (any_order role_of) role_fields (FitsAny HasRoleLine IsRoleValue) (any_form role_of role_fields HasRoleLine IsRoleValue laws.roles) (codes "roles") refl n.found.1 r.found r.is in
     let bs = body_back laws k.found.0 r.found.1 b.found b.is in
     let order = omitted_order None o.found.0 os.fit in
     let nodes = any_parts HasNodeLine IsNodeValue None n.found.0 ns.fit in
@@ -179,8 +172,8 @@ lines_back laws at e eq =
     let rest : k.found.1.lines ≡ O o.found.0 ++ (N ++ (R ++ B)) =
     os.whole ∙ ap (λ l. O o.found.0 ++ l) (ns.whole ∙ ap (λ l. N ++ l) (rs.whole ∙ ap (λ l. R ++ l) (bs.whole ∙ ap (λ l. body_lines b.found.0 ++ l) end.whole))) in
     let whole : at.lines ≡ evidence_lines made =
-    vn.lines ∙ ap (λ f. f ∷ v.found.1.lines) (version_is vn.fields v.found.0 vn.is)
-    ∙ ap (λ l. version_fields ∷ l) (kn.lines ∙ ap (λ f. f ∷ k.found.1.lines) (kind_is kn.fields k.found.0 kn.is)
+    vn.lines ∙ ap (λ f. f ∷ v.found.1.lines) (laws.version.back vn.fields v.found.0 vn.is).0
+    ∙ ap (λ l. version_fields ∷ l) (kn.lines ∙ ap (λ f. f ∷ k.found.1.lines) (laws.kinds.back kn.fields k.found.0 kn.is).0
     ∙ ap (λ l. kind_fields k.found.0 ∷ l) (rest ∙ sym (lists_parts (O o.found.0) N R B) ∙ ap (λ l. (O l ++ (N ++ R)) ++ B) (sym sides))) in
     subst (λ x. IsWhole at.lines x) end.same (record {
       whole = whole;
@@ -207,12 +200,12 @@ lines_again laws e has is =
     let B = body_lines e.body ++ end_fields ∷ [] in
     let start : List Fields → At = λ l. record { read = 0; lines = version_fields ∷ kind_fields e.kind ∷ l } in
     let version = next_again version_of (Line 1) 0 version_fields (kind_fields e.kind ∷ (O ++ (N ++ (R ++ B)))) tt refl in
-    let kind = next_again kind_of (Length 1) 1 (kind_fields e.kind) (O ++ (N ++ (R ++ B))) e.kind (kind_again e.kind) in
-    let os = section_again laws.number ordered_omitted omitted_fields FitsOmitted (omitted_form laws) (codes "omitted") (omitted_list e.omitted) 2 (N ++ (R ++ B)) is.omitted_count
+    let kind = next_again kind_of (Length 1) 1 (kind_fields e.kind) (O ++ (N ++ (R ++ B))) e.kind (laws.kinds.again e.kind tt tt) in
+    let os = section_again laws.counts ordered_omitted omitted_fields FitsOmitted (omitted_form laws) (codes "omitted") refl (omitted_list e.omitted) 2 (N ++ (R ++ B)) is.omitted_count
     (omitted_fit None (omitted_list e.omitted) has.omitted is.omitted) in
-    let ns = section_again laws.number (any_order node_of) node_fields (FitsAny HasNodeLine IsNodeValue) (any_form node_of node_fields HasNodeLine IsNodeValue laws.nodes) (codes "nodes") e.nodes os.read (R ++ B) is.nodes_count
+    let ns = section_again laws.counts (any_order node_of) node_fields (FitsAny HasNodeLine IsNodeValue) (any_form node_of node_fields HasNodeLine IsNodeValue laws.nodes) (codes "nodes") refl e.nodes os.read (R ++ B) is.nodes_count
     (any_fit HasNodeLine IsNodeValue None e.nodes has.nodes is.nodes) in
-    let rs = section_again laws.number (any_order role_of) role_fields (FitsAny HasRoleLine IsRoleValue) (any_form role_of role_fields HasRoleLine IsRoleValue laws.roles) (codes "roles") e.roles ns.read B is.roles_count
+    let rs = section_again laws.counts (any_order role_of) role_fields (FitsAny HasRoleLine IsRoleValue) (any_form role_of role_fields HasRoleLine IsRoleValue laws.roles) (codes "roles") refl e.roles ns.read B is.roles_count
     (any_fit HasRoleLine IsRoleValue None e.roles has.roles is.roles) in
     let bs = body_again laws e.kind e.body rs.read (end_fields ∷ []) has.body is.body in
     ap (λ l. next_line version_of (Line 1) (start l) >>= after_version) (lists_parts O N R B)

@@ -1,34 +1,36 @@
 -- Whole evidence is read as what it spells, and as nothing else.
-use Rattle.std.proofs.Common.{◌≡◌, ◌≢◌, ℕ, zero, suc, ◌+◌, ◌^◌, ◌<◌, Bool, true, false, cond, List, [], ◌∷◌, ◌++◌, length, map, Option, Some, None, Result, Ok, Err, refl, sym, ap, subst, ◌∙◌, append_assoc, arith}
-use Rattle.std.specs.Prelude.{codes, decimal, ⊤, nat_lt}
+use Rattle.std.proofs.Common.{◌≡◌, ℕ, zero, suc, ◌+◌, ◌^◌, ◌<◌, true, List, [], ◌∷◌, ◌++◌, length, map, Option, Some, None, Ok, refl, sym, ap, subst, ◌∙◌, append_assoc}
+use Rattle.std.specs.Prelude.{⊤}
 use Rattle.std.specs.List.{AllByRecursion, flat_map}
 use Rattle.std.proofs.lemmas.List.Concat.{flat_map-cons}
 use Rattle.derivation.specs.declared.types.Step.{Step}
-use Rattle.line_fields.specs.Lines.{Fields, IsField, IsLine}
+use Rattle.line_fields.specs.Lines.{Fields}
 use Rattle.line_fields.specs.Reading.{At}
 use Rattle.evidence_lines.specs.LineLaw.{AreLinesOf}
 use Rattle.evidence_lines.specs.Steps.{step_fields, HasStepLine, AreStepNumbers}
 use Rattle.evidence_lines.specs.StepReading.{step_of}
-use Rattle.evidence_text.specs.declared.types.EvidenceFault.{EvidenceFault}
-use Rattle.evidence_text.specs.declared.types.EvidenceFault.TheVariants.{Version, Line, Length, OutOfMemory}
+use Rattle.evidence_text.specs.declared.types.EvidenceFault.TheVariants.{Length}
 use Rattle.evidence_text.specs.declared.types.Removed.{Removed}
-use Rattle.evidence_text.specs.EvidenceText.{numbered, row_fields, removed_lines, rows_lines, lines_from, HaveLinesFrom, InOrder, row_before, AreRemovedNumbers}
-use Rattle.evidence_text.specs.FirstLines.{row_follows, count_of, row_of}
-use Rattle.evidence_text.specs.Reading.{Read, ◌>>=◌, next_line, first_line, entries, any_order, rows, removed_rows, run_on, run_of, before_rest}
-use Rattle.evidence_text.proofs.OptionLaws.{NumberLaw, IsRow, row_is, row_again, count_is, count_again}
-use Rattle.evidence_text.proofs.SectionLaws.{Bound, bound, ok_is, IsNext, next_is, Again, next_again, IsForm, AllFit, AreEntries, entries_back, entries_again, entries_line, FitsAny, any_form, any_fit, any_parts}
+use Rattle.evidence_text.specs.EvidenceText.{removed_lines, lines_from, HaveLinesFrom, AreRemovedNumbers}
+use Rattle.evidence_lines.specs.FirstLines.{row_fields, row_of}
+use Rattle.evidence_lines.specs.Model.{number_follows}
+use Rattle.evidence_text.specs.Reading.{◌>>=◌, next_line, entries, any_order, rows, run_on, run_of, before_rest}
+use Rattle.evidence_text.proofs.SectionLaws.{bound, ok_is, next_is, Again, next_again, entries_back, entries_again, FitsAny, any_form, any_fit, any_parts}
 
 -- ---- removed rows
 
 -- a row that may follow one with this number, with its steps
 pub record FitsRow (before : Option ℕ) (r : Removed) : Type 0 where
-  pub follows : row_follows before r.row ≡ true
+  pub follows : number_follows before r.row ≡ true
   pub has : AllByRecursion HasStepLine r.steps
   pub numbers : AreRemovedNumbers r
 
 abbrev pub RowsFit : Option ℕ → List Removed → Type 0
 RowsFit before [] = ⊤
 RowsFit before (r ∷ rs) = FitsRow before r × RowsFit (Some r.row) rs
+
+abbrev pub RowLaw : Type 0
+RowLaw = (before : Option ℕ) → AreLinesOf (row_of before) (λ r. row_fields r.0 r.1) (λ r. number_follows before r.0 ≡ true) (λ r. (r.0 < 2 ^ 32) × (r.1 < 2 ^ 64))
 
 abbrev pub StepLaw : Type 0
 StepLaw = AreLinesOf step_of step_fields HasStepLine AreStepNumbers
@@ -38,7 +40,7 @@ pub record AreRows (before : Option ℕ) (count : ℕ) (lines : List Fields) (fo
   pub whole : lines ≡ flat_map removed_lines found.0 ++ found.1.lines
   pub fit : RowsFit before found.0
 
-pub rows_back : NumberLaw → StepLaw → (first count : ℕ) (before : Option ℕ) (at : At) (found : List Removed × At) → rows first count before at ≡ Ok found → AreRows before count at.lines found
+pub rows_back : RowLaw → StepLaw → (first count : ℕ) (before : Option ℕ) (at : At) (found : List Removed × At) → rows first count before at ≡ Ok found → AreRows before count at.lines found
 unfolding rows
 rows_back law steps first zero before at found e =
     let same = ok_is ([], at) found e in
@@ -49,23 +51,23 @@ rows_back law steps first (suc count) before at found e =
     let s = bound (entries (any_order step_of) first h.found.0.1 None h.found.1) (λ list. rows first count (Some h.found.0.0) list.1 >>= λ more. Ok (record { row = h.found.0.0; steps = list.0 } ∷ more.0, more.1)) found h.later in
     let m = bound (rows first count (Some h.found.0.0) s.found.1) (λ more. Ok (record { row = h.found.0.0; steps = s.found.0 } ∷ more.0, more.1)) found s.later in
     let next = next_is (row_of before) (Length first) at h.found h.is in
-    let head = row_is law before next.fields h.found.0 next.is in
+    let head = (law before).back next.fields h.found.0 next.is in
     let list = entries_back (any_order step_of) step_fields (FitsAny HasStepLine AreStepNumbers) (any_form step_of step_fields HasStepLine AreStepNumbers steps) first h.found.0.1 None h.found.1 s.found s.is in
     let later = rows_back law steps first count (Some h.found.0.0) s.found.1 m.found m.is in
     let parts = any_parts HasStepLine AreStepNumbers None s.found.0 list.fit in
     let r : Removed = record { row = h.found.0.0; steps = s.found.0 } in
     let same = ok_is (r ∷ m.found.0, m.found.1) found m.later in
     let own : at.lines ≡ removed_lines r ++ s.found.1.lines =
-    next.lines ∙ ap (λ f. f ∷ h.found.1.lines) head.whole ∙ ap (λ k. row_fields h.found.0.0 k ∷ h.found.1.lines) (sym list.count_is)
+    next.lines ∙ ap (λ f. f ∷ h.found.1.lines) head.0 ∙ ap (λ k. row_fields h.found.0.0 k ∷ h.found.1.lines) (sym list.count_is)
     ∙ ap (λ l. row_fields r.row (length r.steps) ∷ l) list.whole in
     subst (λ f. AreRows before (suc count) at.lines f) same (record {
       count_is = ap suc later.count_is;
       whole = own ∙ ap (λ l. removed_lines r ++ l) later.whole ∙ sym (append_assoc (removed_lines r) (flat_map removed_lines m.found.0) m.found.1.lines)
           ∙ ap (λ l. l ++ m.found.1.lines) (sym (flat_map-cons removed_lines r m.found.0));
-      fit = (record { follows = head.follows; has = parts.0; numbers = record { row = head.number; count = rw list.count_is head.count; steps = parts.1 } }, later.fit);
+      fit = (record { follows = head.1; has = parts.0; numbers = record { row = head.2.0; count = rw list.count_is head.2.1; steps = parts.1 } }, later.fit);
     })
 
-pub rows_again : NumberLaw → StepLaw → (first : ℕ) (before : Option ℕ) (rs : List Removed) (read : ℕ) (rest : List Fields) → RowsFit before rs
+pub rows_again : RowLaw → StepLaw → (first : ℕ) (before : Option ℕ) (rs : List Removed) (read : ℕ) (rest : List Fields) → RowsFit before rs
     → Again (rows first (length rs) before (record { read = read; lines = flat_map removed_lines rs ++ rest })) rs rest
 unfolding rows
 rows_again law steps first before [] read rest fit = record { read = read; is = refl }
@@ -74,7 +76,7 @@ rows_again law steps first before (r ∷ rs) read rest fit =
     let regrouped : flat_map removed_lines (r ∷ rs) ++ rest ≡ removed_lines r ++ others =
     ap (λ l. l ++ rest) (flat_map-cons removed_lines r rs) ∙ append_assoc (removed_lines r) (flat_map removed_lines rs) rest in
     let head = next_again (row_of before) (Length first) read (row_fields r.row (length r.steps)) (map step_fields r.steps ++ others) (r.row, length r.steps)
-    (row_again law before r.row (length r.steps) fit.0.follows fit.0.numbers.row fit.0.numbers.count) in
+    ((law before).again (r.row, length r.steps) fit.0.follows (fit.0.numbers.row, fit.0.numbers.count)) in
     let list = entries_again (any_order step_of) step_fields (FitsAny HasStepLine AreStepNumbers) (any_form step_of step_fields HasStepLine AreStepNumbers steps)
     first None r.steps (read + 1) others (any_fit HasStepLine AreStepNumbers None r.steps fit.0.has fit.0.numbers.steps) in
     let later = rows_again law steps first (Some r.row) rs list.read rest fit.1 in

@@ -1,7 +1,6 @@
 -- Lines that are put one after another.
-use Rattle.std.proofs.Common.{◌≡◌, ℕ, ◌+◌, List, [], ◌∷◌, ◌++◌, map, length, refl, ap, sym, ◌∙◌, append_assoc, arith}
-use Rattle.std.specs.List.{flat_map}
-use Rattle.std.proofs.lemmas.List.{append-nil, length-append, length-map}
+use Rattle.std.proofs.Common.{◌≡◌, ℕ, ◌+◌, List, [], ◌∷◌, ◌++◌, map, length, ap, sym, ◌∙◌, append_assoc, arith}
+use Rattle.std.proofs.lemmas.List.{append-nil, length-append, length-map, map-append}
 use Rattle.std.proofs.lemmas.List.Concat.{flat_map-cons}
 use Rattle.std.proofs.lemmas.Grind.{flat_map-append}
 use Rattle.el_logic.specs.declared.types.Side.TheVariants as side
@@ -17,10 +16,6 @@ line_more text first lines = append_assoc text (line first) (text_of lines) ∙ 
 -- lines after others
 pub lines_more : (text : List ℕ) (lines more : List Fields) → (text ++ text_of lines) ++ text_of more ≡ text ++ text_of (lines ++ more)
 lines_more text lines more = append_assoc text (text_of lines) (text_of more) ∙ ap (λ t. text ++ t) (sym (flat_map-append line lines more))
-
-map-append : {X Y : Type 0} → (f : X → Y) (xs ys : List X) → map f (xs ++ ys) ≡ map f xs ++ map f ys
-map-append f [] ys = refl
-map-append f (x ∷ xs) ys = ap (λ l. f x ∷ l) (map-append f xs ys)
 
 -- the axioms that are left out: their number, and their lines
 pub omitted_count : (o : SideOmitted) → length (omitted_list o) ≡ length o.left + length o.right

@@ -1,49 +1,28 @@
 -- The text of evidence, section by section, and which values have one.
-use Rattle.std.specs.Prelude.{◌≡◌, ℕ, ◌+◌, ◌<◌, ◌^◌, nat_lt, Bool, true, List, [], ◌∷◌, ◌++◌, length, map, codes, decimal, Option, Some, None, ⊤}
+use Rattle.std.specs.Prelude.{◌≡◌, ℕ, ◌+◌, ◌<◌, ◌^◌, nat_lt, Bool, true, List, [], ◌∷◌, ◌++◌, length, map, codes, Option, Some, None, ⊤}
 use Rattle.std.specs.List.{AllByRecursion, flat_map}
 use Rattle.el_logic.specs.declared.types.Side.{Side}
 use Rattle.el_logic.specs.declared.types.Side.TheVariants as side
-use Rattle.el_logic.specs.declared.types.Part.{Part}
-use Rattle.el_logic.specs.declared.types.Part.TheVariants as part
 use Rattle.el_logic.specs.declared.types.Interp.{Interp}
-use Rattle.accuse_core.specs.declared.journal.Entry.{Entry}
 use Rattle.accuse_core.specs.Seen.{EntriesSeen}
-use Rattle.derivation.specs.declared.types.Step.{Step}
 use Rattle.ofn_axiom.specs.declared.types.Omitted.{Omitted}
 use Rattle.ofn_axiom.specs.declared.types.SideOmitted.{SideOmitted}
 use Rattle.line_fields.specs.Lines.{Fields, text_of}
-use Rattle.evidence_lines.specs.declared.types.NodeLine.{NodeLine}
-use Rattle.evidence_lines.specs.declared.types.RoleLine.{RoleLine}
+use Rattle.evidence_lines.specs.declared.types.Kind.{Kind}
+use Rattle.evidence_lines.specs.declared.types.Kind.TheVariants as kind
 use Rattle.evidence_lines.specs.declared.types.SidedOmitted.{SidedOmitted}
+use Rattle.evidence_lines.specs.FirstLines.{version_fields, kind_fields, numbered, row_fields, end_fields}
 use Rattle.evidence_lines.specs.Steps.{step_fields, HasStepLine, AreStepNumbers}
 use Rattle.evidence_lines.specs.Names.{node_fields, role_fields, HasNodeLine, HasRoleLine, IsNodeValue, IsRoleValue}
 use Rattle.evidence_lines.specs.Omitted.{omitted_fields, omitted_before, ArePlaceNumbers}
 use Rattle.evidence_lines.specs.Journal.{entry_fields, HasEntryLine, AreEntryNumbers}
 use Rattle.evidence_lines.specs.Model.{class_fields, property_fields, HasClassLine, HasPropertyLine, AreElementNumbers, ArePairNumbers}
-use Rattle.evidence_text.specs.declared.types.Kind.{Kind}
-use Rattle.evidence_text.specs.declared.types.Kind.TheVariants as kind
 use Rattle.evidence_text.specs.declared.types.Removed.{Removed}
 use Rattle.evidence_text.specs.declared.types.Body.{Body}
 use Rattle.evidence_text.specs.declared.types.Body.TheVariants as body
 use Rattle.evidence_text.specs.declared.types.Evidence.{Evidence}
 
 -- ---- the lines
-
-abbrev pub version_fields : Fields
-version_fields = codes "alod" ∷ codes "evidence" ∷ codes "1" ∷ []
-
-abbrev pub part_word : Part → List ℕ
-part_word part.Left = codes "left"
-part_word part.Right = codes "right"
-part_word part.Both = codes "both"
-
-abbrev pub kind_fields : Kind → Fields
-kind_fields kind.Diagnosis = codes "diagnosis" ∷ []
-kind_fields (kind.Refusal p) = codes "refusal" ∷ part_word p ∷ []
-
--- a word and a number
-abbrev pub numbered : List ℕ → ℕ → Fields
-numbered word n = word ∷ decimal n ∷ []
 
 -- a section: a first line that counts its entries, and a line for each entry
 abbrev pub section_lines : {X : Type 0} → List ℕ → (X → Fields) → List X → List Fields
@@ -55,9 +34,6 @@ of_side s o = record { side = s; omitted = o }
 -- the axioms that are left out, LEFT's first
 abbrev pub omitted_list : SideOmitted → List SidedOmitted
 omitted_list o = map (of_side side.Left) o.left ++ map (of_side side.Right) o.right
-
-abbrev pub row_fields : ℕ → ℕ → Fields
-row_fields row steps = codes "row" ∷ decimal row ∷ codes "steps" ∷ decimal steps ∷ []
 
 -- a removed row, and its steps
 abbrev pub removed_lines : Removed → List Fields
@@ -76,9 +52,6 @@ abbrev pub model_lines : Interp → List Fields
 model_lines m =
     numbered (codes "model") m.size
     ∷ (lines_from class_fields 0 m.classes ++ lines_from property_fields 0 m.roles)
-
-abbrev pub end_fields : Fields
-end_fields = codes "end" ∷ []
 
 abbrev pub body_lines : Body → List Fields
 body_lines (body.Diagnosis removed model journal) =

@@ -1,4 +1,3 @@
 pub mod EvidenceText
-pub mod FirstLines
 pub mod Reading
 pub mod Inside

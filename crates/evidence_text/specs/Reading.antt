@@ -1,12 +1,9 @@
 -- How a text is read: the value, or the first fault.
-use Rattle.std.specs.Prelude.{◌≡◌, ℕ, zero, suc, ◌+◌, ◌==◌, nat_lt, Bool, true, false, ◌&&◌, not, if◌then◌else◌, List, [], ◌∷◌, ◌++◌, codes, bytes_eq, Option, Some, None, Result, Ok, Err, ⊤}
+use Rattle.std.specs.Prelude.{◌≡◌, ℕ, zero, suc, ◌+◌, Bool, true, if◌then◌else◌, List, [], ◌∷◌, codes, Option, Some, None, Result, Ok, Err, ⊤}
 use Rattle.std.specs.List.{slice_split}
 use Rattle.byte_words.specs.Bytes.{is_line_feed}
 use Rattle.el_logic.specs.declared.types.Side.{Side}
 use Rattle.el_logic.specs.declared.types.Side.TheVariants as side
-use Rattle.el_logic.specs.declared.types.Part.{Part}
-use Rattle.el_logic.specs.declared.types.Part.TheVariants as part
-use Rattle.derivation.specs.declared.types.Step.{Step}
 use Rattle.ofn_axiom.specs.declared.types.Omitted.{Omitted}
 use Rattle.ofn_axiom.specs.declared.types.SideOmitted.{SideOmitted}
 use Rattle.line_fields.specs.Lines.{Fields}
@@ -19,13 +16,13 @@ use Rattle.evidence_lines.specs.Model.{members_of, pairs_of}
 use Rattle.evidence_lines.specs.declared.types.SidedOmitted.{SidedOmitted}
 use Rattle.evidence_text.specs.declared.types.EvidenceFault.{EvidenceFault}
 use Rattle.evidence_text.specs.declared.types.EvidenceFault.TheVariants.{Version, Line, Length, OutOfMemory}
-use Rattle.evidence_text.specs.declared.types.Kind.{Kind}
-use Rattle.evidence_text.specs.declared.types.Kind.TheVariants as kind
+use Rattle.evidence_lines.specs.declared.types.Kind.{Kind}
+use Rattle.evidence_lines.specs.declared.types.Kind.TheVariants as kind
 use Rattle.evidence_text.specs.declared.types.Removed.{Removed}
 use Rattle.evidence_text.specs.declared.types.Body.{Body}
 use Rattle.evidence_text.specs.declared.types.Body.TheVariants as body
 use Rattle.evidence_text.specs.declared.types.Evidence.{Evidence}
-use Rattle.evidence_text.specs.FirstLines.{version_of, is_other_version, kind_of, count_of, row_of, size_of, end_of}
+use Rattle.evidence_lines.specs.FirstLines.{version_of, is_other_version, kind_of, count_of, row_of, size_of, end_of}
 
 -- what is read, and the place after it
 abbrev pub Read : Type 0 → Type 0

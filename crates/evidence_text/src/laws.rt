@@ -5,8 +5,10 @@ ghost use Rattle.evidence_text.specs.declared.types.Evidence.{Evidence};
 ghost use Rattle.evidence_text.specs.EvidenceText.{evidence_text, HasText, IsEvidenceValue, plain};
 ghost use Rattle.evidence_text.specs.Reading.{text_read};
 
-use evidence_lines::{entry_lines, model_lines, node_lines, omitted_lines, role_lines, step_lines};
-use line_fields::{lines_are_what_is_written, numbers_are_decimal};
+use evidence_lines::{
+    entry_lines, first_lines, model_lines, node_lines, omitted_lines, role_lines, step_lines,
+};
+use line_fields::lines_are_what_is_written;
 
 /// Evidence that has a text is read again from it, and a text is read only as evidence that has
 /// this text. So a text is that of one value at most, apart from the room of its journal.
@@ -19,7 +21,7 @@ pub fn texts_are_what_is_read()
         HasText other → IsEvidenceValue other →
         evidence_text e ≡ evidence_text other → plain e ≡ plain other }
 {
-    numbers_are_decimal();
+    first_lines();
     lines_are_what_is_written();
     step_lines();
     node_lines();

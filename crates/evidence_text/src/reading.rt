@@ -7,12 +7,9 @@ ghost use Rattle.evidence_lines.specs.Journal.{entry_of};
 ghost use Rattle.evidence_lines.specs.Model.{members_of, pairs_of};
 ghost use Rattle.evidence_text.specs.EvidenceText.{plain, plain_body, HasText, IsEvidenceValue, evidence_text};
 ghost use Rattle.evidence_text.specs.declared.types.Evidence.{Evidence};
-ghost use Rattle.evidence_text.specs.FirstLines.{version_of, kind_of, count_of, size_of, row_of, end_of};
+ghost use Rattle.evidence_lines.specs.FirstLines.{version_of, kind_of, count_of, size_of, row_of, end_of};
 ghost use Rattle.evidence_text.specs.Reading.{next_line, first_line, section, entries, any_order, by_side, rows, removed_rows, run_at, diagnosis, refusal, body_by, ended, lines_read, text_read, first_piece, no_more, GivesRead};
 
-use crate::first_lines::{
-    count_of, is_last, is_other_version, is_version, kind_of, row_of, size_of,
-};
 use crate::laws::texts_are_what_is_read;
 use crate::sections::{LineEntry, entries};
 use crate::{Body, Evidence, EvidenceFault, Kind, Removed};
@@ -20,7 +17,8 @@ use accuse_core::{Entries, Entry};
 use derivation::{Derivation, Step};
 use el_logic::{Interp, MemberLists, PairLists, Side};
 use evidence_lines::{
-    NodeLine, NodeLines, RoleLine, RoleLines, SidedOmitted, members_of, pairs_of,
+    NodeLine, NodeLines, RoleLine, RoleLines, SidedOmitted, count_of, is_last, is_other_version,
+    is_version, kind_of, members_of, pairs_of, row_of, size_of,
 };
 use line_fields::{Cursor, Fields, parted};
 use ofn_axiom::{OmittedList, SideOmitted};

@@ -5,20 +5,11 @@ ghost use Rattle.evidence_text.specs.declared.types.EvidenceFault.TheVariants.{O
 
 use accuse_core::Entries;
 use derivation::Derivation;
-use el_logic::{Interp, ListOf, Part};
-use evidence_lines::{NodeLines, RoleLines};
+use el_logic::{Interp, ListOf};
+use evidence_lines::{Kind, NodeLines, RoleLines};
 use ofn_axiom::SideOmitted;
 use std::alloc::{AllocError, AllocFailed};
 use thiserror::Error;
-
-/// What evidence is for.
-#[derive(Clone, Copy, Debug, PartialEq, Eq)]
-pub enum Kind {
-    /// A repaired table.
-    Diagnosis,
-    /// Ontologies that are incoherent without any row.
-    Refusal(Part),
-}
 
 /// A row that is removed, by its number from 1, and why it leaves a class empty.
 #[derive(Debug, Drop)]

@@ -6,31 +6,19 @@ ghost use Rattle.line_fields.specs.Lines.{line, text_of};
 ghost use Rattle.evidence_lines.specs.Omitted.{omitted_fields};
 ghost use Rattle.evidence_lines.specs.Model.{class_fields, property_fields};
 ghost use Rattle.evidence_lines.specs.Steps.{step_fields};
-ghost use Rattle.evidence_text.specs.EvidenceText.{version_fields, part_word, kind_fields, numbered, section_lines, of_side, omitted_list, row_fields, removed_lines, rows_lines, lines_from, model_lines, end_fields, body_lines, lists_lines, evidence_lines, evidence_text, HasText};
+ghost use Rattle.evidence_lines.specs.FirstLines.{version_fields, part_word, kind_fields, numbered, row_fields, end_fields};
+ghost use Rattle.evidence_text.specs.EvidenceText.{section_lines, of_side, omitted_list, removed_lines, rows_lines, lines_from, model_lines, body_lines, lists_lines, evidence_lines, evidence_text, HasText};
 
 use crate::sections::LineEntry;
 use crate::{Body, Evidence, Kind, Removed};
-use el_logic::{Interp, Numbers, Pairs, Part, Side};
-use evidence_lines::{SidedOmitted, put_members, put_omitted, put_pairs};
-use line_fields::{end_line, put_field, put_number};
+use el_logic::{Interp, Numbers, Pairs, Side};
+use evidence_lines::{
+    SidedOmitted, put_end, put_kind, put_members, put_numbered, put_omitted, put_pairs, put_row,
+    put_version,
+};
 use ofn_axiom::{Omitted, SideOmitted};
 use std::alloc::{AllocError, Global};
 use text_names::Bytes;
-
-fn put_numbered(text: &mut Bytes, word: &[u8], number: u64) -> Result<(), AllocError>
-    ensures { OnOk result (text.new ≡ text.old ++ line (numbered word.now number)) }
-{
-    text.append(word)?;
-    put_number(text, number)?;
-    end_line(text)
-}
-
-fn put_word(text: &mut Bytes, word: &[u8]) -> Result<(), AllocError>
-    ensures { OnOk result (text.new ≡ text.old ++ line (word.now ∷ [])) }
-{
-    text.append(word)?;
-    end_line(text)
-}
 
 #[tactic(auto, using(crate::proofs::WriteLaws::line_more))]
 fn put_entries<X: LineEntry>(text: &mut Bytes, items: &[X]) -> Result<(), AllocError>
@@ -70,8 +58,8 @@ fn put_side(text: &mut Bytes, side: Side, list: &[Omitted]) -> Result<(), AllocE
 
 #[tactic(auto, using(crate::proofs::WriteLaws::line_more, crate::proofs::WriteLaws::omitted_count, crate::proofs::WriteLaws::omitted_texts))]
 fn put_left_out(text: &mut Bytes, omitted: &SideOmitted) -> Result<(), AllocError>
-    ensures { let lines = section_lines (codes "omitted") omitted_fields (omitted_list omitted.now) in
-        OnOk result (text.new ≡ text.old ++ text_of lines) }
+    ensures { let list = omitted_list omitted.now in OnOk result
+        (text.new ≡ text.old ++ text_of (section_lines (codes "omitted") omitted_fields list)) }
 {
     let left = omitted.left.as_slice();
     let right = omitted.right.as_slice();
@@ -81,16 +69,6 @@ fn put_left_out(text: &mut Bytes, omitted: &SideOmitted) -> Result<(), AllocErro
     put_numbered(text, b"omitted", count as u64)?;
     put_side(text, Side::Left, left)?;
     put_side(text, Side::Right, right)
-}
-
-fn put_row(text: &mut Bytes, row: u32, steps: u64) -> Result<(), AllocError>
-    ensures { OnOk result (text.new ≡ text.old ++ line (row_fields row steps)) }
-{
-    text.append(b"row")?;
-    put_number(text, u64::from(row))?;
-    put_field(text, b"steps")?;
-    put_number(text, steps)?;
-    end_line(text)
 }
 
 #[tactic(auto, using(crate::proofs::WriteLaws::line_more))]
@@ -150,29 +128,6 @@ fn put_model(text: &mut Bytes, model: &Interp) -> Result<(), AllocError>
     put_properties(text, model.roles.as_slice())
 }
 
-fn part_word(part: Part) -> &'static [u8]
-    ensures { result.now ≡ part_word part }
-{
-    match part {
-        Part::Left => b"left",
-        Part::Right => b"right",
-        Part::Both => b"both",
-    }
-}
-
-fn put_kind(text: &mut Bytes, kind: Kind) -> Result<(), AllocError>
-    ensures { OnOk result (text.new ≡ text.old ++ line (kind_fields kind)) }
-{
-    match kind {
-        Kind::Diagnosis => put_word(text, b"diagnosis"),
-        Kind::Refusal(part) => {
-            text.append(b"refusal")?;
-            put_field(text, part_word(part))?;
-            end_line(text)
-        }
-    }
-}
-
 #[tactic(auto, using(crate::proofs::WriteLaws::line_more, crate::proofs::WriteLaws::lines_more))]
 fn put_body(text: &mut Bytes, body: &Body) -> Result<(), AllocError>
     ensures { OnOk result (text.new ≡ text.old ++ text_of (body_lines body.now)) }
@@ -195,7 +150,7 @@ fn put_head(text: &mut Bytes, kind: Kind) -> Result<(), AllocError>
     ensures { OnOk result
         (text.new ≡ (text.old ++ line version_fields) ++ line (kind_fields kind)) }
 {
-    text.append(b"alod evidence 1\n")?;
+    put_version(text)?;
     put_kind(text, kind)
 }
 
@@ -218,6 +173,6 @@ pub fn write_evidence(alloc: Global, evidence: &Evidence) -> Result<Bytes, Alloc
     put_head(&mut text, evidence.kind)?;
     put_lists(&mut text, evidence)?;
     put_body(&mut text, &evidence.body)?;
-    put_word(&mut text, b"end")?;
+    put_end(&mut text)?;
     Ok(text)
 }

@@ -2,7 +2,7 @@
 use Rattle.std.proofs.Common.{◌≡◌, ℕ, zero, suc, ◌+◌, ◌*◌, ◌-◌, ◌^◌, ◌<◌, ◌≤◌, ◌==◌, ltb, ◌&&◌, Bool, true, false, cond, List, [], ◌∷◌, length, get_or, refl, sym, arith, rules, Option, Some, None}
 use Rattle.std.specs.Prelude.{decimal}
 use Rattle.std.specs.Str.{all_ascii_digits}
-use Rattle.std.proofs.lemmas.Bool.{eqb-true, ltb-true, lt-ltb}
+use Rattle.std.proofs.lemmas.Bool.{eqb-true, ltb-true, lt-ltb, and_parts, and_from}
 use Rattle.std.proofs.lemmas.Bool.Decides.{nat_tests}
 use Rattle.std.proofs.lemmas.Str.Parse.{IsNumeralModel, numerals_by_fold, tells_all_ascii_digits}
 use Rattle.std.proofs.lemmas.Fmt.{decimal_digit, decimal_nonempty, first_decimal, digits_decimal, digits_value-decimal, decimal-digits_value}
@@ -17,13 +17,6 @@ read_on n (c ∷ cs) = read_on (n * 10 + (c - 48)) cs
 
 own : IsNumeralModel (λ ds. all_ascii_digits ds ≡ true) (read_on 0)
 own = numerals_by_fold _ tells_all_ascii_digits read_on (search rules)
-
-both_true : (x y : Bool) → (x && y) ≡ true → (x ≡ true) × (y ≡ true)
-both_true true y e = (refl, e)
-both_true false y e = absurd cc
-
-and_true : (x y : Bool) → x ≡ true → y ≡ true → (x && y) ≡ true
-and_true x y e f = rw (e, f) refl
 
 -- more digits make no smaller number
 grows : (n : ℕ) (bs : List ℕ) → n ≤ read_on n bs
@@ -45,15 +38,15 @@ digits_back n (b ∷ bs) m below e =
         → (n * 10 + (b - 48) < 2 ^ 64 → digits_from (2 ^ 64) (n * 10 + (b - 48)) bs ≡ Some m → AreDigits (n * 10 + (b - 48)) bs m)
         → AreDigits n (b ∷ bs) m
     by true t e later =
-        let parts = both_true _ _ t in
+        let parts = and_parts _ _ t in
         let rest = later (ltb-true _ _ parts.1) e in
-        record { digits = and_true _ _ parts.0 rest.digits; value = rest.value; below = rest.below }
+        record { digits = and_from _ _ parts.0 rest.digits; value = rest.value; below = rest.below }
     by false t e later = absurd cc
 
 digits_again : (n : ℕ) (bs : List ℕ) → all_ascii_digits bs ≡ true → read_on n bs < 2 ^ 64 → digits_from (2 ^ 64) n bs ≡ Some (read_on n bs)
 digits_again n [] digits below = refl
 digits_again n (b ∷ bs) digits below =
-    let parts = both_true (is_digit b) (all_ascii_digits bs) digits in
+    let parts = and_parts (is_digit b) (all_ascii_digits bs) digits in
     let small : n * 10 + (b - 48) < 2 ^ 64 = let g = grows (n * 10 + (b - 48)) bs in omega arith in
     rw (parts.0, lt-ltb _ _ small) (digits_again (n * 10 + (b - 48)) bs parts.1 below)
 
@@ -112,7 +105,7 @@ short_again n below = rw (long_again n (omega arith), lt-ltb n (2 ^ 32) below) r
 digits_are_field : (ds : List ℕ) → all_ascii_digits ds ≡ true → IsField ds
 digits_are_field [] digits = tt
 digits_are_field (d ∷ ds) digits =
-    let parts = both_true (is_digit d) (all_ascii_digits ds) digits in
+    let parts = and_parts (is_digit d) (all_ascii_digits ds) digits in
     (digit_parts_nothing d parts.0, digits_are_field ds parts.1)
   where
     digit_parts_nothing : (d : ℕ) → is_digit d ≡ true → parts_fields d ≡ false

@@ -1,5 +1,5 @@
 -- Entries that are read one after another, as a loop does.
-use Rattle.std.specs.Prelude.{ℕ, ◌-◌, List, ◌++◌, length, slice_get, Option, Ok}
+use Rattle.std.specs.Prelude.{◌-◌, List, ◌++◌, length, slice_get, Option, Ok}
 use Rattle.line_fields.specs.Reading.{At}
 use Rattle.evidence_text.specs.Reading.{Read, ◌>>=◌}
 

@@ -1,7 +1,6 @@
 use Rattle.std.proofs.Common.{sym, ap, ◌∙◌}
 use Rattle.evidence_text.specs.Reading.{text_read}
 use Rattle.evidence_text.specs.EvidenceText.{plain}
-use Rattle.evidence_text.proofs.OptionLaws.{NumberLaw}
 use Rattle.evidence_text.proofs.BodyLaws.{LineLaws}
 use Rattle.evidence_text.proofs.BytesLaws.{LinesLaw, text_again, text_back}
 use Rattle.evidence_text.proofs.FoundLaws.{same_ok}
@@ -9,10 +8,14 @@ use Rattle.evidence_text.proofs.laws.texts_are_what_is_read.Goals as goal
 
 pub returns : goal.returns
 returns c =
-    let n = c.numbers_are_decimal.ensures in
-    let number : NumberLaw = record { long = n.long; long_again = n.long_again; short = n.short; short_again = n.short_again; field = n.field } in
+    let f = c.first_lines.ensures in
     let laws : LineLaws = record {
-      number = number;
+      version = f.version;
+      kinds = f.kinds;
+      counts = f.counts;
+      rows = f.rows;
+      size = f.size;
+      end = f.end;
       steps = c.step_lines.ensures;
       nodes = c.node_lines.ensures;
       roles = c.role_lines.ensures;

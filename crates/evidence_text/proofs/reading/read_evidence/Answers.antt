@@ -1,4 +1,4 @@
-use Rattle.std.proofs.Common.{sym, ap, subst, ◌∙◌}
+use Rattle.std.proofs.Common.{ap, subst, ◌∙◌}
 use Rattle.evidence_text.specs.EvidenceText.{plain}
 use Rattle.evidence_text.specs.Reading.{text_read, GivesRead}
 use Rattle.evidence_text.proofs.FoundLaws.{is_found}

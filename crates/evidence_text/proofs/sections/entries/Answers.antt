@@ -1,4 +1,4 @@
-use Rattle.std.proofs.Common.{◌≡◌, ◌<◌, ◌≤◌, ◌-◌, length, None, Some, Err, Option, sym, ap, ◌∙◌, arith, slice_get}
+use Rattle.std.proofs.Common.{◌≡◌, ◌<◌, ◌≤◌, ◌-◌, length, None, Some, Err, sym, ap, ◌∙◌, arith, slice_get}
 use Rattle.std.specs.Option.{option_copied}
 use Rattle.evidence_text.specs.declared.types.EvidenceFault.TheVariants.{Line}
 use Rattle.evidence_text.specs.Inside.Loops.{last_of}

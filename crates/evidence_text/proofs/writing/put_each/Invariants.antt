@@ -1,4 +1,4 @@
-use Rattle.std.proofs.Common.{◌≡◌, ◌++◌, map, drop}
+use Rattle.std.proofs.Common.{◌≡◌, ◌++◌, drop}
 use Rattle.line_fields.specs.Lines.{text_of}
 use Rattle.std.specs.List.{flat_map}
 use Rattle.evidence_text.specs.EvidenceText.{removed_lines}

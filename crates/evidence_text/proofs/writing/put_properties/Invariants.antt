@@ -1,4 +1,4 @@
-use Rattle.std.proofs.Common.{◌≡◌, ◌++◌, map, drop}
+use Rattle.std.proofs.Common.{◌≡◌, ◌++◌, drop}
 use Rattle.line_fields.specs.Lines.{text_of}
 use Rattle.evidence_lines.specs.Model.{property_fields}
 use Rattle.evidence_text.specs.EvidenceText.{lines_from}

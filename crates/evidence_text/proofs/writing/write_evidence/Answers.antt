@@ -1,6 +1,7 @@
 use Rattle.std.proofs.Common.{◌++◌, ap, ◌∙◌}
 use Rattle.line_fields.specs.Lines.{line, text_of}
-use Rattle.evidence_text.specs.EvidenceText.{version_fields, kind_fields, lists_lines, body_lines, end_fields, evidence_text}
+use Rattle.evidence_lines.specs.FirstLines.{version_fields, kind_fields, end_fields}
+use Rattle.evidence_text.specs.EvidenceText.{lists_lines, body_lines, evidence_text}
 use Rattle.evidence_text.proofs.WriteLaws.{whole_text}
 use Rattle.evidence_text.proofs.writing.write_evidence.Goals as goal
 
@@ -8,7 +9,7 @@ pub returns : goal.returns
 unfolding evidence_text
 returns c =
     let e = c.args.evidence.now in
-    c.in_ok-put_word.ensures
+    c.in_ok-put_end.ensures
     ∙ ap (λ t. t ++ line end_fields) (c.in_ok-put_body.ensures
     ∙ ap (λ t. t ++ text_of (body_lines e.body)) (c.in_ok-put_lists.ensures
     ∙ ap (λ t. t ++ text_of (lists_lines e)) (c.in_ok-put_head.ensures ∙ ap (λ t. (t ++ line version_fields) ++ line (kind_fields e.kind)) c.new-text.ensures)))

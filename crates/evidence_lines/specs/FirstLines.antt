@@ -1,15 +1,42 @@
--- The lines that begin a section, or end the text.
-use Rattle.std.specs.Prelude.{ℕ, nat_lt, Bool, true, false, not, ◌&&◌, if◌then◌else◌, List, [], ◌∷◌, codes, bytes_eq, Option, Some, None}
+-- Lines that begin a section, or end the text: how each is spelled and read.
+use Rattle.std.specs.Prelude.{ℕ, Bool, true, false, not, ◌&&◌, if◌then◌else◌, List, [], ◌∷◌, codes, bytes_eq, decimal, Option, Some, None}
 use Rattle.std.specs.List.{list_all}
 use Rattle.byte_words.specs.Bytes.{is_digit}
 use Rattle.el_logic.specs.declared.types.Part.{Part}
 use Rattle.el_logic.specs.declared.types.Part.TheVariants as part
-use Rattle.line_fields.specs.Lines.{Fields}
-use Rattle.line_fields.specs.Reading.{◌>>=◌, long_in, short_in, is_end}
-use Rattle.evidence_lines.specs.Model.{after_word}
+use Rattle.line_fields.specs.Lines.{Fields, parts_fields}
+use Rattle.line_fields.specs.Reading.{◌>>=◌, long_in, short_in}
+use Rattle.evidence_lines.specs.declared.types.Kind.{Kind}
+use Rattle.evidence_lines.specs.declared.types.Kind.TheVariants as kind
+use Rattle.evidence_lines.specs.Model.{after_word, number_follows}
 use Rattle.evidence_lines.specs.Names.{if_end}
-use Rattle.evidence_text.specs.declared.types.Kind.{Kind}
-use Rattle.evidence_text.specs.declared.types.Kind.TheVariants as kind
+
+abbrev pub version_fields : Fields
+version_fields = codes "alod" ∷ codes "evidence" ∷ codes "1" ∷ []
+
+abbrev pub part_word : Part → List ℕ
+part_word part.Left = codes "left"
+part_word part.Right = codes "right"
+part_word part.Both = codes "both"
+
+abbrev pub kind_fields : Kind → Fields
+kind_fields kind.Diagnosis = codes "diagnosis" ∷ []
+kind_fields (kind.Refusal p) = codes "refusal" ∷ part_word p ∷ []
+
+-- a word and a number
+abbrev pub numbered : List ℕ → ℕ → Fields
+numbered word n = word ∷ decimal n ∷ []
+
+-- a removed row, and how many steps follow
+abbrev pub row_fields : ℕ → ℕ → Fields
+row_fields row steps = codes "row" ∷ decimal row ∷ codes "steps" ∷ decimal steps ∷ []
+
+abbrev pub end_fields : Fields
+end_fields = codes "end" ∷ []
+
+-- a word that may be a field
+abbrev pub is_plain : List ℕ → Bool
+is_plain word = list_all (λ b. not (parts_fields b)) word
 
 -- the word alone
 abbrev pub word_of : {X : Type 0} → List ℕ → X → Fields → Option X
@@ -60,12 +87,8 @@ abbrev pub size_of : Fields → Option ℕ
 size_of fields =
     after_word (codes "model") fields >>= λ rest. short_in rest >>= λ size. if_end size.1 size.0
 
-abbrev pub row_follows : Option ℕ → ℕ → Bool
-row_follows None row = true
-row_follows (Some before) row = nat_lt before row
-
 abbrev pub if_row_follows : Option ℕ → ℕ → ℕ → Option (ℕ × ℕ)
-if_row_follows before row steps = if row_follows before row then Some (row, steps) else None
+if_row_follows before row steps = if number_follows before row then Some (row, steps) else None
 
 -- the number of a row that may follow this one, and how many steps follow
 abbrev pub row_of : Option ℕ → Fields → Option (ℕ × ℕ)

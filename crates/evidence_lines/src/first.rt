@@ -4,19 +4,13 @@ ghost use Rattle.std.specs.Prelude.{◌≡◌, IsSome, ◌↔◌, IsTrue};
 ghost use Rattle.std.specs.Option.{is_some};
 ghost use Rattle.std.specs.List.{list_all};
 ghost use Rattle.byte_words.specs.Bytes.{is_digit};
-ghost use Rattle.evidence_lines.specs.Model.{after_word};
-ghost use Rattle.evidence_text.specs.FirstLines.{word_of, version_of, is_other_number, names_other, is_other_version, part_named, refusal_of, kind_of, count_of, size_of, row_follows, row_of, end_of};
+ghost use Rattle.evidence_lines.specs.Model.{after_word, number_follows};
+ghost use Rattle.evidence_lines.specs.FirstLines.{word_of, version_of, is_other_number, names_other, is_other_version, part_named, refusal_of, kind_of, count_of, size_of, row_of, end_of};
 
-use crate::Kind;
+use crate::model::{after_word, number_follows};
+use crate::types::Kind;
 use el_logic::Part;
 use line_fields::Fields;
-
-fn after_word<'a>(word: &[u8], fields: Fields<'a>) -> Option<Fields<'a>>
-    ensures { result ≡ after_word word.now fields.entry }
-{
-    let (field, rest) = fields.next()?;
-    if field == word { Some(rest) } else { None }
-}
 
 /// Whether the line says this version.
 pub fn is_version(fields: Fields<'_>) -> bool
@@ -135,15 +129,6 @@ pub fn size_of(fields: Fields<'_>) -> Option<u32>
     if rest.is_end() { Some(size) } else { None }
 }
 
-fn row_follows(before: Option<u32>, row: u32) -> bool
-    ensures { result ≡ row_follows before row }
-{
-    match before {
-        None => true,
-        Some(before) => before < row,
-    }
-}
-
 /// The number of a removed row that comes after this one, and how many steps follow.
 pub fn row_of(before: Option<u32>, fields: Fields<'_>) -> Option<(u32, u64)>
     ensures { result ≡ row_of before fields.entry }
@@ -155,7 +140,7 @@ pub fn row_of(before: Option<u32>, fields: Fields<'_>) -> Option<(u32, u64)>
     if !rest.is_end() {
         return None;
     }
-    if row_follows(before, row) {
+    if number_follows(before, row) {
         Some((row, steps))
     } else {
         None
