@@ -12,11 +12,7 @@ use io_edge::{PutAnswer, Sink};
 use std::alloc::{AllocError, Global};
 
 // Puts a line that was made, if memory sufficed.
-fn put_made<S: Sink>(
-    alloc: Global,
-    out: &mut S,
-    line: Result<Vec<u8>, AllocError>,
-) -> PutAnswer
+fn put_made<S: Sink>(alloc: Global, out: &mut S, line: Result<Vec<u8>, AllocError>) -> PutAnswer
     ensures answer { (bytes : List ℕ) → IfOk line (λ line. line.items ≡ bytes)
         → PutAnswers (S.seen out.old) (S.seen out.new) bytes result }
     ensures later { (S.seen out.old).faults ≤ (S.seen out.new).faults }

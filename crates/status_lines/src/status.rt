@@ -26,7 +26,9 @@ pub enum Status {
     },
     /// The mapping table is no table. Too many rows and memory are told by `Limit` and
     /// `OutOfMemory`.
-    Table { fault: TableFault },
+    Table {
+        fault: TableFault,
+    },
     /// The ontology has a head, or a property, that is outside the fragment.
     Profile {
         side: Side,
@@ -36,13 +38,22 @@ pub enum Status {
     /// The ontologies leave a class without a member even without the table: the first such part,
     /// and in it the IRI of the first such class in order of appearance. There is nothing to repair
     /// in the table.
-    Incoherent { part: Part, class: Text },
+    Incoherent {
+        part: Part,
+        class: Text,
+    },
     /// The input is larger than a limit.
-    Limit { kind: LimitKind },
+    Limit {
+        kind: LimitKind,
+    },
     /// The system reported an error while this file was read, or there is no such file.
-    ReadFault { file: Role },
+    ReadFault {
+        file: Role,
+    },
     /// The system reported an error while this file or the summary was written.
-    WriteFault { target: Target },
+    WriteFault {
+        target: Target,
+    },
     OutOfMemory,
 }
 
