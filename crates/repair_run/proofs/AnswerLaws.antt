@@ -19,8 +19,8 @@ use Rattle.case_load.specs.declared.texts.Loaded.{Loaded}
 use Rattle.status_lines.specs.declared.status.Status.{Status}
 use Rattle.status_lines.specs.Lines.{status_of}
 use Rattle.repair_run.specs.Words.{FileNames, name_of}
-use Rattle.repair_run.specs.Outcomes.{AreLoaded, AreCoherentTogether, IsIncoherentCase, IsRepairable, case_in, inputs_of, iri_of_class}
-use Rattle.repair_run.specs.Run.{Run, IfTold, IsFault, IsDone, IsRun, FilesStand, HasNoFault, IsOrMemory, IsOrReadStop}
+use Rattle.repair_run.specs.Outcomes.{AreLoaded, AreCoherentTogether, IsIncoherentCase, IsRepairable, case_in, inputs_named, iri_of_class}
+use Rattle.repair_run.specs.Run.{Run, IfTold, IsRunFault, IsDone, IsRun, FilesStand, HasNoFault, IsOrMemory, IsOrReadStop}
 use Rattle.repair_run.specs.Inside.Stops.{IsStop}
 use Rattle.repair_run.proofs.FaultLaws.{OneAnswer, IsNoRead, loaded_or_fault, one_loaded, one_file_fault}
 use Rattle.repair_run.proofs.FoundLaws.{MoreStay, one_part, is_incoherent, one_iri}
@@ -31,7 +31,7 @@ told None P h = tt
 told (Some files) P h = h files refl
 
 -- a read of an input that failed is one of its name
-read_rose : (run : Run) (names : FileNames) (most : ℕ) (file : Role) → IsNotRead run.folder run.folder_after (inputs_of names) most file
+read_rose : (run : Run) (names : FileNames) (most : ℕ) (file : Role) → IsNotRead run.folder run.folder_after (inputs_named names) most file
     → ReadsRose run.folder run.folder_after (name_of names file)
 read_rose run names most role.Left h = h.1
 read_rose run names most role.Right h = h.1
@@ -42,14 +42,14 @@ read_rose run names most role.Evidence h = absurd h.0
 module _ (laws : OneAnswer) (more : MoreStay) (run : Run) (names : FileNames) (limits : Limits) where
   module _ (files : Files) (are : run.folder.files ≡ Some files) where
     -- files that are read have no fault
-    no_fault : (loaded : Loaded) (fault : LoadFault) → AreLoaded run.folder names limits loaded → IsNoRead fault → IsFault run names limits fault → ⊥
-    no_fault = loaded_or_fault laws run.folder run.folder_after files are (inputs_of names) Strict limits
+    no_fault : (loaded : Loaded) (fault : LoadFault) → AreLoaded run.folder names limits loaded → IsNoRead fault → IsRunFault run names limits fault → ⊥
+    no_fault = loaded_or_fault laws run.folder run.folder_after files are (inputs_named names) Strict limits
 
     -- one part and one class are the first that is found
     one_found : (part part' : Part) (iri iri' : List ℕ) → IsIncoherentCase run.folder names limits part iri
         → IsIncoherentCase run.folder names limits part' iri' → (part ≡ part') × (iri ≡ iri')
     one_found part part' iri iri' h k =
-        let same = one_loaded laws run.folder run.folder_after files are (inputs_of names) Strict limits h.loaded k.loaded h.read k.read in
+        let same = one_loaded laws run.folder run.folder_after files are (inputs_named names) Strict limits h.loaded k.loaded h.read k.read in
         let case = case_in k.loaded in
         let first = subst (λ (c : CaseView). IsFirstIncoherent c.classes c.properties c.left c.right part h.class) same.case h.first in
         let named = subst (λ (n : Names). iri_of_class n.classes.names h.class ≡ Some iri) same.names h.named in
@@ -60,17 +60,17 @@ module _ (laws : OneAnswer) (more : MoreStay) (run : Run) (names : FileNames) (l
     no_part : (part : Part) (iri : List ℕ) → IsIncoherentCase run.folder names limits part iri → (loaded : Loaded)
         → AreLoaded run.folder names limits loaded → AreCoherentTogether loaded → ⊥
     no_part part iri h loaded read coherent =
-        let same = one_loaded laws run.folder run.folder_after files are (inputs_of names) Strict limits h.loaded loaded h.read read in
+        let same = one_loaded laws run.folder run.folder_after files are (inputs_named names) Strict limits h.loaded loaded h.read read in
         let case = case_in loaded in
         let first = subst (λ (c : CaseView). IsFirstIncoherent c.classes c.properties c.left c.right part h.class) same.case h.first in
         coherent (is_incoherent case.classes case.properties more case.left case.right part h.class first)
 
     -- where the files have a fault, a run that stops says so, unless a read failed or memory ran out
-    fault_stop : (fault : LoadFault) → IsNoRead fault → IsFault run names limits fault → (s : Status) → IsStop run names limits s → IsOrReadStop (status_of fault) s
+    fault_stop : (fault : LoadFault) → IsNoRead fault → IsRunFault run names limits fault → (s : Status) → IsStop run names limits s → IsOrReadStop (status_of fault) s
     fault_stop fault n f s h = by s h
       where
-        same : (other : LoadFault) → IsNoRead other → IsFault run names limits other → IsOrReadStop (status_of fault) (status_of other)
-        same other m g = inl (ap status_of (one_file_fault laws run.folder run.folder_after files are (inputs_of names) Strict limits other fault m n g f))
+        same : (other : LoadFault) → IsNoRead other → IsRunFault run names limits other → IsOrReadStop (status_of fault) (status_of other)
+        same other m g = inl (ap status_of (one_file_fault laws run.folder run.folder_after files are (inputs_named names) Strict limits other fault m n g f))
 
         by : (s : Status) → IsStop run names limits s → IsOrReadStop (status_of fault) s
         by (Status.ReadFault file) h = inr (inl (file, refl))
@@ -141,7 +141,7 @@ module _ (laws : OneAnswer) (more : MoreStay) (run : Run) (names : FileNames) (l
     files = (done.0, done.1);
   }
     where
-      no_answer : (fault : LoadFault) → IsNoRead fault → IfTold run (λ files. IsFault run names limits fault → IsOrReadStop (status_of fault) Status.Done)
+      no_answer : (fault : LoadFault) → IsNoRead fault → IfTold run (λ files. IsRunFault run names limits fault → IsOrReadStop (status_of fault) Status.Done)
       no_answer fault n = told run.folder.files _ (λ files are f. absurd (no_fault files are done.0.loaded fault done.0.read n f))
 
   -- a run that stops
@@ -166,7 +166,7 @@ module _ (laws : OneAnswer) (more : MoreStay) (run : Run) (names : FileNames) (l
     files = files;
   }
     where
-      answers : (fault : LoadFault) → IsNoRead fault → IfTold run (λ files. IsFault run names limits fault → IsOrReadStop (status_of fault) s)
+      answers : (fault : LoadFault) → IsNoRead fault → IfTold run (λ files. IsRunFault run names limits fault → IsOrReadStop (status_of fault) s)
       answers fault n = told run.folder.files _ (λ f are g. fault_stop f are fault n g s stop)
 
   -- how the files stand if memory ran out in place of another answer

@@ -11,8 +11,7 @@ use Rattle.rank_order.specs.Order.{IsRanking}
 use Rattle.case_file.specs.Cases.{CaseView}
 use Rattle.case_file.specs.Incoherence.{IsIncoherentFor, name_of}
 use Rattle.saturate.specs.Decisions.{IsFirstEmptyFor, IsFirstIncoherentPart}
-use Rattle.predicate_axioms.specs.RowAxioms.{row_axioms}
-use Rattle.case_load.specs.Loads.{IsCaseOf, rows_in}
+use Rattle.case_load.specs.Loads.{IsCaseOf}
 use Rattle.case_load.specs.declared.texts.Loaded.{Loaded}
 use Rattle.case_load.specs.declared.documents.Documents.{Documents}
 use Rattle.ofn_axiom.specs.declared.types.Names.{Names}
@@ -23,7 +22,7 @@ use Rattle.diagnosis.specs.declared.rows.KeptRows.{KeptRows}
 use Rattle.diagnosis.specs.Rows.{has_rank_of, keep_of}
 use Rattle.status_lines.specs.Lines.{summary_text}
 use Rattle.repaired_table.specs.Repaired.{repaired_text}
-use Rattle.repair_run.specs.Outcomes.{case_in, iri_of_class, keep_in, kept_count, omitted_count, text_of, line_of, AreIncoherentWith}
+use Rattle.repair_run.specs.Outcomes.{case_in, iri_of_class, keep_in, kept_count, omitted_count, out_text_of, summary_line, AreIncoherentWith}
 use Rattle.repair_run.specs.Inside.Choices.{IsPlain, IsKept, IsChoice, IsFound}
 use Rattle.repair_run.proofs.FamilyLaws.{same_repair}
 use Rattle.repair_run.proofs.StartLaws.{ExcusingNone, coherent_part, first_part}
@@ -37,10 +36,6 @@ loaded_is_plain count limits documents table loaded made = record {
   rows = ap (λ (c : CaseView). length c.order) made.case ∙ count _ made.order made.ranking ∙ length-map table.rows (λ (row : Row). row.confidence)
       ∙ ap (λ (t : Table). length t.rows) (sym made.same_table);
 }
-
--- how many rows it is told of whether they are kept
-pub keep_length : (order kept : List ℕ) → length (keep_of order kept) ≡ length order
-keep_length order kept = length-map (range_with_len 0 (length order)) (has_rank_of order kept) ∙ length-range_with_len 0 (length order)
 
 module _ (law : ExcusingNone) (loaded : Loaded) (plain : IsPlain loaded) where
   -- what is found of the case is found of its classes
@@ -76,16 +71,17 @@ module _ (law : ExcusingNone) (loaded : Loaded) (plain : IsPlain loaded) (base :
         keep = marks ∙ ap (λ (c : CaseView). keep_of c.order ranks) same;
         counted = count_is;
         within = omega arith;
-        each = ap length marks ∙ keep_length case.order ranks ∙ order;
+        each = ap length marks ∙ length-map (range_with_len 0 (length case.order)) (has_rank_of case.order ranks)
+            ∙ length-range_with_len 0 (length case.order) ∙ order;
       }
 
 -- what is written of a choice
 module _ (loaded : Loaded) (rows : KeptRows) (choice : IsChoice loaded rows) where
-  pub written_text : (text : List ℕ) (keep : List Bool) → keep ≡ rows.keep.items → text ≡ repaired_text loaded.table keep → text ≡ text_of loaded choice.kept
+  pub written_text : (text : List ℕ) (keep : List Bool) → keep ≡ rows.keep.items → text ≡ repaired_text loaded.table keep → text ≡ out_text_of loaded choice.kept
   written_text text keep same is = is ∙ ap (repaired_text loaded.table) (same ∙ choice.keep)
 
   pub written_line : (line : List ℕ) (count omitted : ℕ) → count ≡ length loaded.table.rows → omitted ≡ omitted_count loaded
-      → line ≡ summary_text count rows.kept loaded.inert omitted → line ≡ line_of loaded choice.kept
+      → line ≡ summary_text count rows.kept loaded.inert omitted → line ≡ summary_line loaded choice.kept
   written_line line count omitted counted left is =
       is ∙ ap (λ (n : ℕ). summary_text n rows.kept loaded.inert omitted) counted
       ∙ ap (λ (n : ℕ). summary_text (length loaded.table.rows) n loaded.inert omitted) (choice.counted ∙ ap kept_count choice.keep)

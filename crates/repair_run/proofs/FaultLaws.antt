@@ -6,7 +6,7 @@ use Rattle.io_edge.specs.Outside.{Files, FolderSeen, IsLonger}
 use Rattle.io_edge.specs.declared.outside.Role.{Role}
 use Rattle.io_edge.specs.declared.outside.Role.TheVariants as role
 use Rattle.ofn_axiom.specs.declared.types.Mode.{Mode}
-use Rattle.case_load.specs.Loads.{Inputs, IsLoaded, SayTheSame}
+use Rattle.case_load.specs.Loads.{Inputs, inputs, IsLoaded, SayTheSame}
 use Rattle.case_load.specs.Faults.{IsFirstLoadFault}
 use Rattle.case_load.specs.Folders.{AreFiles, IsFile, IsWhole, IsTooLong, IsTextsFault, IsLoadedFrom, IsFirstFileFault, name_of}
 use Rattle.case_load.specs.declared.texts.Loaded.{Loaded}
@@ -46,7 +46,8 @@ module _ (folder : FolderSeen) (files : Files) (told : folder.files ≡ Some fil
   one_texts names one other h k =
       let l = one_text names.left one.left other.left h.left k.left in
       let r = one_text names.right one.right other.right h.right k.right in
-      let m = one_text names.map one.map other.map h.map k.map in cc
+      let m = one_text names.map one.map other.map h.map k.map in
+      ap (λ (t : List ℕ). inputs t one.right one.map) l ∙ ap (λ (t : List ℕ). inputs other.left t one.map) r ∙ ap (inputs other.left other.right) m
 
   -- a file that is read is not too long
   not_longer : (name bytes : List ℕ) → IsFile folder name most bytes → IfSome folder.files (λ f. IsLonger (f name) most) → ⊥

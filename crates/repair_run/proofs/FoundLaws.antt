@@ -1,8 +1,9 @@
 -- The first part that leaves a class empty is one, and so is the first such class.
-use Rattle.std.proofs.Common.{◌≡◌, ℕ, zero, suc, List, [], ◌∷◌, ◌++◌, inl, inr, refl, sym, ◌∙◌, ap, subst, Contains, arith}
+use Rattle.std.proofs.Common.{◌≡◌, ℕ, List, ◌++◌, inl, inr, refl, sym, ◌∙◌, ap, Contains, arith}
 use Rattle.std.specs.Prelude.{Some, slice_get}
 use Rattle.std.proofs.lemmas.Bool.{cases_lt}
-use Rattle.std.proofs.lemmas.List.Elements.{Contains-append_left, Contains-append_right, Contains-push}
+use Rattle.std.proofs.lemmas.List.Elements.{Contains-append_left, Contains-append_right}
+use Rattle.std.proofs.lemmas.Option.{slice_get_within, get_or_from_slice_get}
 use Rattle.el_logic.specs.declared.types.Expr.{Expr}
 use Rattle.el_logic.specs.declared.types.Axiom.{Axiom}
 use Rattle.el_logic.specs.declared.types.Part.{Part}
@@ -14,16 +15,10 @@ abbrev pub MoreStay : Type 0
 MoreStay = (classes roles : ℕ) (axioms more : List Axiom) → ((one : Axiom) → Contains axioms one → Contains more one)
     → IsIncoherent classes roles axioms → IsIncoherent classes roles more
 
--- what a list gives at a place it contains
-get_contains : {X : Type 0} (xs : List X) (k : ℕ) (x : X) → slice_get xs k ≡ Some x → Contains xs x
-get_contains [] k x e = cc
-get_contains (y ∷ xs) zero x e = let same : y ≡ x = cc in subst (Contains (y ∷ xs)) same (Contains-append_left (y ∷ []) xs y (Contains-push [] y))
-get_contains (y ∷ xs) (suc k) x e = Contains-append_right (y ∷ []) xs x (get_contains xs k x e)
-
 module _ (classes roles : ℕ) where
   -- the first empty class shows incoherence
   incoherent_by : (axioms : List Axiom) (class : Expr) → IsFirstEmpty classes roles axioms class → IsIncoherent classes roles axioms
-  incoherent_by axioms class f = (class, get_contains (must_have classes) f.place class f.at, f.empty)
+  incoherent_by axioms class f = (class, (f.place, slice_get_within (must_have classes) f.place class f.at, get_or_from_slice_get (must_have classes) f.place class class f.at), f.empty)
 
   -- the first empty class is one
   one_first : (axioms : List Axiom) (c d : Expr) → IsFirstEmpty classes roles axioms c → IsFirstEmpty classes roles axioms d → c ≡ d

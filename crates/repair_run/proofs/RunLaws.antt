@@ -14,7 +14,7 @@ use Rattle.case_load.specs.declared.texts.Loaded.{Loaded}
 use Rattle.status_lines.specs.declared.status.Status.{Status}
 use Rattle.status_lines.specs.Lines.{refusal_line, status_of}
 use Rattle.repair_run.specs.Words.{FileNames}
-use Rattle.repair_run.specs.Outcomes.{Outcome, inputs_of, AreLoaded, IsRepairable, text_of, line_of}
+use Rattle.repair_run.specs.Outcomes.{Outcome, inputs_named, AreLoaded, IsRepairable, out_text_of, summary_line}
 use Rattle.repair_run.specs.Run.{Run, IfTold, HasGot, IsDone, IsWritten, IsTorn, IsPutShort, FilesStand, OutputStands}
 use Rattle.repair_run.specs.Inside.Choices.{IsKept, IsFound, IsChoiceStop}
 use Rattle.repair_run.specs.Inside.Stops.{IsLoadStop, IsStop, IsQuiet, IsWriteStop}
@@ -42,7 +42,7 @@ rose_later first before now le h = omega (arith, le, h)
 
 -- why a run stops whose files have a fault
 pub fault_stops : (old new : FolderSeen) (names : FileNames) (limits : Limits) (fault : LoadFault)
-    → OrOutOfMemory load_ran_out (IsFirstFileFault old new (inputs_of names) Strict limits) fault → IsLoadStop old new names limits (status_of fault)
+    → OrOutOfMemory load_ran_out (IsFirstFileFault old new (inputs_named names) Strict limits) fault → IsLoadStop old new names limits (status_of fault)
 fault_stops old new names limits load.OutOfMemory h = tt
 fault_stops old new names limits (load.ReadFault file) h = h
 fault_stops old new names limits (load.Syntax side place kind) h = h
@@ -127,7 +127,7 @@ module _ (run : Run) (names : FileNames) (limits : Limits) (loaded : Loaded) (re
   choice_files same _ h = absurd h
 
   -- what was read, and what is kept of it
-  module _ (kept : List ℕ) (is : IsKept loaded kept) (text line : List ℕ) (writes : text ≡ text_of loaded kept) (says : line ≡ line_of loaded kept) where
+  module _ (kept : List ℕ) (is : IsKept loaded kept) (text line : List ℕ) (writes : text ≡ out_text_of loaded kept) (says : line ≡ summary_line loaded kept) where
     abbrev outcome : Outcome run.folder names limits
     outcome = record { loaded = loaded; read = read; coherent = is.coherent; kept = kept; repair = is.repair }
 
@@ -137,14 +137,18 @@ module _ (run : Run) (names : FileNames) (limits : Limits) (loaded : Loaded) (re
     put_short : IfSome run.output.got (λ got. HasGotFront got run.output_after.got line) → IsPutShort run names limits
     put_short put = (outcome, subst (λ (t : List ℕ). IfSome run.output.got (λ got. HasGotFront got run.output_after.got t)) says put)
 
+    holds : IfTold run (λ files. run.folder_after.files ≡ Some (with_file files names.out text))
+        → IfTold run (λ files. run.folder_after.files ≡ Some (with_file files names.out (out_text_of loaded kept)))
+    holds written = subst (λ (t : List ℕ). IfTold run (λ files. run.folder_after.files ≡ Some (with_file files names.out t))) writes written
+
     whole : IfTold run (λ files. run.folder_after.files ≡ Some (with_file files names.out text)) → IsWritten run names limits
-    whole written = (outcome, subst (λ (t : List ℕ). IfTold run (λ files. run.folder_after.files ≡ Some (with_file files names.out t))) writes written)
+    whole written = (outcome, holds written)
 
     torn : IfTold run (λ files. (run.folder_after.files ≡ Some files) ⊎ HoldsFront files run.folder_after.files names.out text) → IsTorn run names limits
     torn written = (outcome, subst (λ (t : List ℕ). IfTold run (λ files. (run.folder_after.files ≡ Some files) ⊎ HoldsFront files run.folder_after.files names.out t)) writes written)
 
     pub done : IfTold run (λ files. run.folder_after.files ≡ Some (with_file files names.out text)) → HasGot run line → IsDone run names limits
-    done written put = (outcome, (whole written).1, subst (HasGot run) says put)
+    done written put = (outcome, holds written, subst (HasGot run) says put)
 
     abbrev Stops : Status → Type 0
     Stops s = IsWriteStop run names.out text line s

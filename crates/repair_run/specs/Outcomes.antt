@@ -19,13 +19,13 @@ use Rattle.repaired_table.specs.Repaired.{repaired_text}
 use Rattle.status_lines.specs.Lines.{summary_text}
 use Rattle.repair_run.specs.Words.{FileNames}
 
-abbrev pub inputs_of : FileNames → Inputs
-inputs_of names = inputs names.left names.right names.map
+abbrev pub inputs_named : FileNames → Inputs
+inputs_named names = inputs names.left names.right names.map
 
 -- the files with these names are read: two documents, a table, and the case that they make
 abbrev pub AreLoaded : FolderSeen → FileNames → Limits → Loaded → Type 0
 AreLoaded folder names limits loaded =
-    IsLoadedFrom folder (inputs_of names) Strict limits loaded
+    IsLoadedFrom folder (inputs_named names) Strict limits loaded
 
 abbrev pub case_in : Loaded → CaseView
 case_in loaded = arc_value loaded.case
@@ -60,20 +60,21 @@ abbrev pub omitted_count : Loaded → ℕ
 omitted_count loaded = length loaded.omitted.left + length loaded.omitted.right
 
 -- the table with its kept rows, and the summary
-abbrev pub text_of : Loaded → List ℕ → List ℕ
-text_of loaded kept = repaired_text loaded.table (keep_in loaded kept)
+abbrev pub out_text_of : Loaded → List ℕ → List ℕ
+out_text_of loaded kept = repaired_text loaded.table (keep_in loaded kept)
 
-abbrev pub line_of : Loaded → List ℕ → List ℕ
-line_of loaded kept = summary_text (length loaded.table.rows) (kept_count (keep_in loaded kept))
-    loaded.inert (omitted_count loaded)
+abbrev pub summary_line : Loaded → List ℕ → List ℕ
+summary_line loaded kept =
+    summary_text (length loaded.table.rows) (kept_count (keep_in loaded kept)) loaded.inert
+    (omitted_count loaded)
 
 abbrev pub out_text : {folder : FolderSeen} {names : FileNames} {limits : Limits}
     → Outcome folder names limits → List ℕ
-out_text o = text_of o.loaded o.kept
+out_text o = out_text_of o.loaded o.kept
 
 abbrev pub summary_of : {folder : FolderSeen} {names : FileNames} {limits : Limits}
     → Outcome folder names limits → List ℕ
-summary_of o = line_of o.loaded o.kept
+summary_of o = summary_line o.loaded o.kept
 
 -- the IRI of a class that must have a member
 abbrev pub iri_of_class : List (List ℕ) → Expr → Option (List ℕ)

@@ -18,7 +18,7 @@ use Rattle.case_load.specs.declared.fault.LoadFault.TheVariants as load
 use Rattle.status_lines.specs.declared.status.Status.{Status}
 use Rattle.status_lines.specs.Lines.{refusal_line}
 use Rattle.repair_run.specs.Words.{FileNames, name_of}
-use Rattle.repair_run.specs.Outcomes.{Outcome, inputs_of, out_text, summary_of, IsIncoherentCase, IsRepairable}
+use Rattle.repair_run.specs.Outcomes.{Outcome, inputs_named, out_text, summary_of, IsIncoherentCase, IsRepairable}
 
 -- a run as clauses see it: the folder and the output before it, and after it
 pub record Run : Type 0 where
@@ -42,9 +42,9 @@ IfTold run Holds = IfSome run.folder.files Holds
 
 -- the first fault of the files: a read that failed or a file that is too long, LEFT before RIGHT
 -- before MAP; then LEFT's, RIGHT's and MAP's text, too many nodes, too many roles
-abbrev pub IsFault : Run → FileNames → Limits → LoadFault → Type 0
-IsFault run names limits fault =
-    IsFirstFileFault run.folder run.folder_after (inputs_of names) Strict limits fault
+abbrev pub IsRunFault : Run → FileNames → Limits → LoadFault → Type 0
+IsRunFault run names limits fault =
+    IsFirstFileFault run.folder run.folder_after (inputs_named names) Strict limits fault
 
 -- OUT holds these bytes, and no other file has changed
 abbrev pub HoldsOut : Run → Files → FileNames → List ℕ → Type 0
@@ -129,32 +129,32 @@ pub record IsRun (run : Run) (names : FileNames) (limits : Limits) (answer : Sta
   pub words : answer ≢ Status.Words
   -- an input could not be read, after those before it were read
   pub read_fault : (file : Role) → answer ≡ Status.ReadFault file
-      → IsFault run names limits (load.ReadFault file)
+      → IsRunFault run names limits (load.ReadFault file)
   -- an ontology is no document, and this is the first fault of the files
   pub syntax : (side : Side) (place : Place) (kind : DocKind)
       → answer ≡ Status.Syntax side place kind
-      → IsFault run names limits (load.Syntax side place kind)
+      → IsRunFault run names limits (load.Syntax side place kind)
   pub syntax_answer : (side : Side) (place : Place) (kind : DocKind)
-      → IfTold run (λ files. IsFault run names limits (load.Syntax side place kind)
+      → IfTold run (λ files. IsRunFault run names limits (load.Syntax side place kind)
       → IsOrReadStop (Status.Syntax side place kind) answer)
   -- an ontology has something outside the profile, and this is the first fault of the files
   pub profile : (side : Side) (place : Place) (head : HeadId)
       → answer ≡ Status.Profile side place head
-      → IsFault run names limits (load.Profile side place head)
+      → IsRunFault run names limits (load.Profile side place head)
   pub profile_answer : (side : Side) (place : Place) (head : HeadId)
-      → IfTold run (λ files. IsFault run names limits (load.Profile side place head)
+      → IfTold run (λ files. IsRunFault run names limits (load.Profile side place head)
       → IsOrReadStop (Status.Profile side place head) answer)
   -- the table is no table, and this is the first fault of the files
   pub table : (fault : TableFault) → answer ≡ Status.Table fault
-      → IsFault run names limits (load.Table fault)
+      → IsRunFault run names limits (load.Table fault)
   pub table_answer : (fault : TableFault)
-      → IfTold run (λ files. IsFault run names limits (load.Table fault)
+      → IfTold run (λ files. IsRunFault run names limits (load.Table fault)
       → IsOrReadStop (Status.Table fault) answer)
   -- a file or its content is larger than a limit, and this is the first fault of the files
   pub limit : (kind : LimitKind) → answer ≡ Status.Limit kind
-      → IsFault run names limits (load.Limit kind)
+      → IsRunFault run names limits (load.Limit kind)
   pub limit_answer : (kind : LimitKind)
-      → IfTold run (λ files. IsFault run names limits (load.Limit kind)
+      → IfTold run (λ files. IsRunFault run names limits (load.Limit kind)
       → IsOrReadStop (Status.Limit kind) answer)
   -- the first part of the documents that leaves a class empty, and the first such class
   pub incoherent : (part : Part) (class : List ℕ) → answer ≡ Status.Incoherent part class

@@ -61,20 +61,20 @@ kind_text DocKind.Shape = codes "wrong items for this head"
 kind_text DocKind.PrefixUnknown = codes "unknown prefix"
 kind_text DocKind.PrefixClash = codes "prefix declared with another IRI"
 
-abbrev pub table_text : TableFault → List ℕ
-table_text (TableFault.MapForm line) = codes "line " ++ (decimal line ++ codes ": curie_map form")
-table_text (TableFault.Again line) = codes "line " ++ (decimal line ++ codes ": prefix again")
-table_text TableFault.NoColumns = codes "no columns"
-table_text (TableFault.NotUtf8 row) = codes "row " ++ (decimal row ++ codes ": not UTF-8")
-table_text (TableFault.ColumnMissing column) = codes "no column " ++ column_name column
-table_text (TableFault.ColumnTwice column) =
+abbrev pub fault_text : TableFault → List ℕ
+fault_text (TableFault.MapForm line) = codes "line " ++ (decimal line ++ codes ": curie_map form")
+fault_text (TableFault.Again line) = codes "line " ++ (decimal line ++ codes ": prefix again")
+fault_text TableFault.NoColumns = codes "no columns"
+fault_text (TableFault.NotUtf8 row) = codes "row " ++ (decimal row ++ codes ": not UTF-8")
+fault_text (TableFault.ColumnMissing column) = codes "no column " ++ column_name column
+fault_text (TableFault.ColumnTwice column) =
     codes "column " ++ (column_name column ++ codes " twice")
-table_text TableFault.TooManyRows = codes "too many rows"
-table_text (TableFault.Ragged row) = codes "row " ++ (decimal row ++ codes ": number of fields")
-table_text (TableFault.Curie row column) =
+fault_text TableFault.TooManyRows = codes "too many rows"
+fault_text (TableFault.Ragged row) = codes "row " ++ (decimal row ++ codes ": number of fields")
+fault_text (TableFault.Curie row column) =
     codes "row " ++ (decimal row ++ (codes ": " ++ column_name column))
-table_text (TableFault.Confidence row) = codes "row " ++ (decimal row ++ codes ": confidence")
-table_text TableFault.OutOfMemory = codes "out of memory"
+fault_text (TableFault.Confidence row) = codes "row " ++ (decimal row ++ codes ": confidence")
+fault_text TableFault.OutOfMemory = codes "out of memory"
 
 abbrev pub limit_text : LimitKind → List ℕ
 limit_text (LimitKind.Bytes file) = role_text file ++ codes " bytes"
@@ -97,7 +97,7 @@ refusal_line Status.Done = []
 refusal_line Status.Words = codes "alod: usage: alod LEFT RIGHT MAP OUT\n"
 refusal_line (Status.Syntax side place kind) =
     codes "alod: " ++ (place_text side place ++ (codes ": " ++ (kind_text kind ++ codes "\n")))
-refusal_line (Status.Table fault) = codes "alod: MAP: " ++ (table_text fault ++ codes "\n")
+refusal_line (Status.Table fault) = codes "alod: MAP: " ++ (fault_text fault ++ codes "\n")
 refusal_line (Status.Profile side place head) =
     codes "alod: " ++ (place_text side place
     ++ (codes ": not in the profile: " ++ (name_of head ++ codes "\n")))

@@ -14,9 +14,11 @@ ghost use Rattle.status_lines.specs.Lines.{refusal_line, summary_text};
 
 /// The lines of small cases, as a reader sees them.
 pub fn lines_of_small_cases()
-    ensures syntax { refusal_line (Status.Syntax Side.Left (record { line = 2; column = 14 }) DocKind.PrefixUnknown)
+    ensures syntax { refusal_line
+        (Status.Syntax Side.Left (record { line = 2; column = 14 }) DocKind.PrefixUnknown)
         ≡ codes "alod: LEFT:2:14: unknown prefix\n" }
-    ensures profile { refusal_line (Status.Profile Side.Right (record { line = 1; column = 10 }) ObjectPropertyRange)
+    ensures profile { refusal_line
+        (Status.Profile Side.Right (record { line = 1; column = 10 }) ObjectPropertyRange)
         ≡ codes "alod: RIGHT:1:10: not in the profile: ObjectPropertyRange\n" }
     ensures table { refusal_line (Status.Table (TableFault.Curie 3 Column.Object))
         ≡ codes "alod: MAP: row 3: object_id\n" }

@@ -1,7 +1,7 @@
 //! The lines that a run prints.
 
 ghost use Rattle.std.specs.Prelude.{◌≡◌, ◌≤◌, IfOk, string_bytes};
-ghost use Rattle.status_lines.specs.Lines.{limit_text, place_text, refusal_line, summary_text, table_text};
+ghost use Rattle.status_lines.specs.Lines.{limit_text, place_text, refusal_line, summary_text, fault_text};
 
 use crate::Status;
 use crate::kinds::{kind_text, part_text, role_text, side_text};
@@ -52,8 +52,8 @@ pub fn syntax_line(
     format!(in alloc; "alod: {place}: {kind}\n")
 }
 
-fn table_text(alloc: Global, fault: TableFault) -> Result<String, AllocError>
-    ensures { IfOk result (λ text. string_bytes text ≡ table_text fault) }
+fn fault_text(alloc: Global, fault: TableFault) -> Result<String, AllocError>
+    ensures { IfOk result (λ text. string_bytes text ≡ fault_text fault) }
 {
     match fault {
         TableFault::MapForm { line } => format!(in alloc; "line {line}: curie_map form"),
@@ -73,7 +73,7 @@ fn table_text(alloc: Global, fault: TableFault) -> Result<String, AllocError>
 pub fn table_line(alloc: Global, fault: TableFault) -> Result<String, AllocError>
     ensures { IfOk result (λ line. string_bytes line ≡ refusal_line (Status.Table fault)) }
 {
-    let fault = table_text(alloc, fault)?;
+    let fault = fault_text(alloc, fault)?;
     format!(in alloc; "alod: MAP: {fault}\n")
 }
 
@@ -83,7 +83,8 @@ pub fn profile_line(
     place: Place,
     head: HeadId,
 ) -> Result<Vec<u8>, AllocError>
-    ensures { IfOk result (λ line. line.items ≡ refusal_line (Status.Profile side place head)) }
+    ensures { IfOk result (λ line.
+        line.items ≡ refusal_line (Status.Profile side place head)) }
 {
     let place = place_text(alloc, side, place)?;
     let mut line = Vec::from_slice(alloc, b"alod: ")?;

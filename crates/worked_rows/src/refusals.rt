@@ -120,7 +120,13 @@ fn refuses_ontologies(rt: HostRuntime) -> Result<(), Fail> {
 #[test]
 fn refuses_what_is_no_text(rt: HostRuntime) -> Result<(), Fail> {
     let limits = Limits::standard();
-    let ran = run_within(rt.alloc(), &[255], b"Ontology()", HEADER.as_bytes(), &limits)?;
+    let ran = run_within(
+        rt.alloc(),
+        &[255],
+        b"Ontology()",
+        HEADER.as_bytes(),
+        &limits,
+    )?;
     assert!(rt; ran.number == 3);
     assert!(rt; ran.line.as_slice() == b"alod: LEFT:1:1: not UTF-8\n".as_slice());
     assert!(rt; ran.out.is_empty());

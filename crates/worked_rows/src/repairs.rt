@@ -10,8 +10,7 @@ DisjointClasses(:A ObjectSomeValuesFrom(:t :C)))";
 
 const LED: &str = "Prefix(:=<http://r/>) Ontology(SubClassOf(:X ObjectSomeValuesFrom(:u :Y)))";
 
-const TWICE: &str =
-    "Prefix(:=<http://l/>) Ontology(DisjointClasses(:A :B) DisjointClasses(:B :C))";
+const TWICE: &str = "Prefix(:=<http://l/>) Ontology(DisjointClasses(:A :B) DisjointClasses(:B :C))";
 
 const WHOLE: &str = "Prefix(:=<http://l/>) Ontology(\
 ObjectPropertyDomain(:hasPart :Whole) DisjointClasses(:Whole :Atom))";

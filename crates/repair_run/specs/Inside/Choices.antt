@@ -8,7 +8,7 @@ use Rattle.case_load.specs.declared.texts.Loaded.{Loaded}
 use Rattle.diagnosis.specs.declared.rows.KeptRows.{KeptRows}
 use Rattle.status_lines.specs.declared.status.Status.{Status}
 use Rattle.repair_run.specs.declared.choosing.Results.{Results}
-use Rattle.repair_run.specs.Outcomes.{case_in, iri_of_class, keep_in, kept_count, text_of, line_of, AreCoherentTogether, AreIncoherentWith}
+use Rattle.repair_run.specs.Outcomes.{case_in, iri_of_class, keep_in, kept_count, out_text_of, summary_line, AreCoherentTogether, AreIncoherentWith}
 
 -- the case excuses no class and has the classes of the names, and its rows are those of the table
 pub record IsPlain (loaded : Loaded) : Type 0 where
@@ -34,8 +34,8 @@ pub record IsChoice (loaded : Loaded) (rows : KeptRows) : Type 0 where
 pub record AreResultsOf (loaded : Loaded) (results : Results) : Type 0 where
   pub kept : List ℕ
   pub is_kept : IsKept loaded kept
-  pub text : results.text ≡ text_of loaded kept
-  pub line : string_bytes results.line ≡ line_of loaded kept
+  pub text : results.text ≡ out_text_of loaded kept
+  pub line : string_bytes results.line ≡ summary_line loaded kept
 
 -- the first part of the documents that leaves a class empty, and the IRI of the first such class
 pub record IsFound (loaded : Loaded) (part : Part) (iri : List ℕ) : Type 0 where

@@ -8,33 +8,33 @@ use Rattle.case_load.specs.Folders.{IsFirstFileFault}
 use Rattle.case_load.specs.declared.fault.LoadFault.TheVariants as load
 use Rattle.status_lines.specs.declared.status.Status.{Status}
 use Rattle.repair_run.specs.Words.{FileNames}
-use Rattle.repair_run.specs.Outcomes.{inputs_of, IsIncoherentCase, IsRepairable}
-use Rattle.repair_run.specs.Run.{Run, IfTold, IsFault, IsPutShort}
+use Rattle.repair_run.specs.Outcomes.{inputs_named, IsIncoherentCase, IsRepairable}
+use Rattle.repair_run.specs.Run.{Run, IfTold, IsRunFault, IsPutShort}
 
 -- why the files are not loaded
 abbrev pub IsLoadStop : FolderSeen → FolderSeen → FileNames → Limits → Status → Type 0
 IsLoadStop old new names limits (Status.ReadFault file) =
-    IsFirstFileFault old new (inputs_of names) Strict limits (load.ReadFault file)
+    IsFirstFileFault old new (inputs_named names) Strict limits (load.ReadFault file)
 IsLoadStop old new names limits (Status.Syntax side place kind) =
-    IsFirstFileFault old new (inputs_of names) Strict limits (load.Syntax side place kind)
+    IsFirstFileFault old new (inputs_named names) Strict limits (load.Syntax side place kind)
 IsLoadStop old new names limits (Status.Profile side place head) =
-    IsFirstFileFault old new (inputs_of names) Strict limits (load.Profile side place head)
+    IsFirstFileFault old new (inputs_named names) Strict limits (load.Profile side place head)
 IsLoadStop old new names limits (Status.Table fault) =
-    IsFirstFileFault old new (inputs_of names) Strict limits (load.Table fault)
+    IsFirstFileFault old new (inputs_named names) Strict limits (load.Table fault)
 IsLoadStop old new names limits (Status.Limit kind) =
-    IsFirstFileFault old new (inputs_of names) Strict limits (load.Limit kind)
+    IsFirstFileFault old new (inputs_named names) Strict limits (load.Limit kind)
 IsLoadStop old new names limits Status.OutOfMemory = ⊤
 IsLoadStop old new names limits _ = ⊥
 
 -- why a run stops
 abbrev pub IsStop : Run → FileNames → Limits → Status → Type 0
-IsStop run names limits (Status.ReadFault file) = IsFault run names limits (load.ReadFault file)
+IsStop run names limits (Status.ReadFault file) = IsRunFault run names limits (load.ReadFault file)
 IsStop run names limits (Status.Syntax side place kind) =
-    IsFault run names limits (load.Syntax side place kind)
+    IsRunFault run names limits (load.Syntax side place kind)
 IsStop run names limits (Status.Profile side place head) =
-    IsFault run names limits (load.Profile side place head)
-IsStop run names limits (Status.Table fault) = IsFault run names limits (load.Table fault)
-IsStop run names limits (Status.Limit kind) = IsFault run names limits (load.Limit kind)
+    IsRunFault run names limits (load.Profile side place head)
+IsStop run names limits (Status.Table fault) = IsRunFault run names limits (load.Table fault)
+IsStop run names limits (Status.Limit kind) = IsRunFault run names limits (load.Limit kind)
 IsStop run names limits (Status.Incoherent part iri) =
     IsIncoherentCase run.folder names limits part iri
 IsStop run names limits (Status.WriteFault Target.Out) =
