@@ -2,13 +2,12 @@
 use Rattle.std.proofs.Common.{◌≡◌, List, ℕ, inl, inr, refl, sym, ◌∙◌, ap, subst, ⊎_elim}
 use Rattle.std.specs.Prelude.{Option, Some, None, IfSome}
 use Rattle.text_names.specs.declared.limits.Limits.{Limits}
-use Rattle.text_names.specs.declared.place.Place.{Place}
-use Rattle.io_edge.specs.Outside.{Files, SinkSeen, ReadsRose}
+use Rattle.io_edge.specs.Outside.{Files, ReadsRose}
 use Rattle.io_edge.specs.declared.outside.Role.{Role}
 use Rattle.io_edge.specs.declared.outside.Role.TheVariants as role
 use Rattle.io_edge.specs.declared.outside.Target.TheVariants as Target
 use Rattle.el_logic.specs.declared.types.Part.{Part}
-use Rattle.el_logic.specs.Incoherent.{IsFirstIncoherent, IsCoherent}
+use Rattle.el_logic.specs.Incoherent.{IsFirstIncoherent}
 use Rattle.ofn_axiom.specs.declared.types.Mode.TheVariants.{Strict}
 use Rattle.ofn_axiom.specs.declared.types.Names.{Names}
 use Rattle.case_file.specs.Cases.{CaseView}

@@ -1,6 +1,6 @@
 -- Files that are told have one case or one first fault, but for reads that fail.
-use Rattle.std.proofs.Common.{◌≡◌, ◌⊎◌, ◌≤◌, ◌<◌, ℕ, Bool, true, false, List, length, inl, inr, refl, sym, ◌∙◌, ap, subst, true≢false, arith}
-use Rattle.std.specs.Prelude.{Option, Some, None, IfSome}
+use Rattle.std.proofs.Common.{◌≡◌, ◌⊎◌, ◌<◌, ℕ, List, length, inl, inr, refl, sym, ◌∙◌, ap, subst, arith}
+use Rattle.std.specs.Prelude.{Option, Some, IfSome}
 use Rattle.text_names.specs.declared.limits.Limits.{Limits}
 use Rattle.io_edge.specs.Outside.{Files, FolderSeen, IsLonger}
 use Rattle.io_edge.specs.declared.outside.Role.{Role}
@@ -8,11 +8,10 @@ use Rattle.io_edge.specs.declared.outside.Role.TheVariants as role
 use Rattle.ofn_axiom.specs.declared.types.Mode.{Mode}
 use Rattle.case_load.specs.Loads.{Inputs, inputs, IsLoaded, SayTheSame}
 use Rattle.case_load.specs.Faults.{IsFirstLoadFault}
-use Rattle.case_load.specs.Folders.{AreFiles, IsFile, IsWhole, IsTooLong, IsTextsFault, IsLoadedFrom, IsFirstFileFault, name_of}
+use Rattle.case_load.specs.Folders.{AreFiles, IsFile, IsWhole, IsTooLong, IsTextsFault, IsLoadedFrom, IsFirstFileFault}
 use Rattle.case_load.specs.declared.texts.Loaded.{Loaded}
 use Rattle.case_load.specs.declared.fault.LoadFault.{LoadFault}
 use Rattle.case_load.specs.declared.fault.LoadFault.TheVariants as load
-use Rattle.case_load.specs.declared.fault.LimitKind.{LimitKind}
 use Rattle.case_load.specs.declared.fault.LimitKind.TheVariants as limit
 
 -- what is known of texts: they have one case or one first fault

@@ -1,6 +1,6 @@
 -- How the steps of a run join.
-use Rattle.std.proofs.Common.{◌≡◌, ◌⊎◌, ◌≤◌, ℕ, List, ◌++◌, inl, inr, refl, ◌∙◌, ap, subst, ⊎_elim, arith}
-use Rattle.std.specs.Prelude.{Option, Some, None, IfSome, MatchBool, true, false, ⊤}
+use Rattle.std.proofs.Common.{◌≡◌, ◌⊎◌, ◌≤◌, ℕ, List, ◌++◌, inl, inr, refl, ◌∙◌, subst, ⊎_elim, arith}
+use Rattle.std.specs.Prelude.{Option, Some, None, IfSome}
 use Rattle.text_names.specs.declared.limits.Limits.{Limits}
 use Rattle.io_edge.specs.Outside.{Files, FolderSeen, SinkSeen, FaultsNeverFall, Rose, HoldsFront, HasGotFront, with_file}
 use Rattle.io_edge.specs.declared.outside.Target.TheVariants as Target
@@ -16,7 +16,7 @@ use Rattle.status_lines.specs.Lines.{refusal_line, status_of}
 use Rattle.repair_run.specs.Words.{FileNames}
 use Rattle.repair_run.specs.Outcomes.{Outcome, inputs_named, AreLoaded, IsRepairable, out_text_of, summary_line}
 use Rattle.repair_run.specs.Run.{Run, IfTold, HasGot, IsDone, IsWritten, IsTorn, IsPutShort, FilesStand, OutputStands}
-use Rattle.repair_run.specs.Inside.Choices.{IsKept, IsFound, IsChoiceStop}
+use Rattle.repair_run.specs.Inside.Choices.{IsKept, IsChoiceStop}
 use Rattle.repair_run.specs.Inside.Stops.{IsLoadStop, IsStop, IsQuiet, IsWriteStop}
 
 -- the line of an answer, whole

@@ -1,4 +1,3 @@
-use Rattle.std.proofs.Common.{subst}
 use Rattle.accuse_core.specs.Marks.{kept_of}
 use Rattle.repair_run.proofs.ChoiceLaws.{choice}
 use Rattle.repair_run.proofs.choosing.chosen.Goals as goal

@@ -1,4 +1,4 @@
-use Rattle.std.proofs.Common.{List, ℕ, Option, IfSome, ◌≡◌, ◌∙◌, subst}
+use Rattle.std.proofs.Common.{Option, IfSome, ◌≡◌, ◌∙◌, subst}
 use Rattle.std.specs.Prelude.{Some}
 use Rattle.io_edge.specs.Outside.{Files, with_file}
 use Rattle.repair_run.specs.Inside.Named.{named}
