@@ -7,4 +7,5 @@ pub mod SoundLaws
 pub mod EventLaws
 pub mod JournalLaws
 pub mod StayLaws
+pub mod VerdictLaws
 pub mod GrowthLaws

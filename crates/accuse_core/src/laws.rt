@@ -140,6 +140,16 @@ pub fn front_is_the_least_undecided_rank()
         → is_decided (mark_at marks (front_of marks)) ≡ false }
 {}
 
+/// A verdict on the rank at the front decides it: a no, or a yes over all kept ranks.
+pub fn verdicts_at_the_front_move_it()
+    ensures no { (marks : List Mark) (worker seen : ℕ) → front_of marks < length marks
+        → let told = Event.No worker (front_of marks) seen in
+        front_of marks < front_of (outcome marks told).marks }
+    ensures yes { (marks : List Mark) (worker : ℕ) → front_of marks < length marks
+        → let told = Event.Yes worker (front_of marks) (number_kept marks) in
+        front_of marks < front_of (outcome marks told).marks }
+{}
+
 /// A block keeps its ranks unless they are removed, and leaves all others.
 pub fn blocks_keep_what_is_not_removed()
     ensures within { (marks : List Mark) (rank count other : ℕ)

@@ -17,6 +17,7 @@ pub use laws::{
     decided_ranks_keep_their_marks, events_leave_the_ranks, front_is_the_least_undecided_rank,
     journals_grow_by_an_event, kept_ranks_are_the_repair, kept_ranks_have_the_mark,
     kept_ranks_only_grow, no_rank_waits_at_the_front, removed_ranks_are_accused,
+    verdicts_at_the_front_move_it,
 };
 pub use machine::Core;
 pub use mark::Mark;

@@ -4,7 +4,7 @@
 
 ghost use Rattle.std.specs.Prelude.{◌≡◌};
 ghost use Rattle.std.specs.Process.{exit_status};
-ghost use Rattle.repair_run.specs.Status.{status_number};
+ghost use Rattle.status_lines.specs.Lines.{status_number};
 
 use io_edge::{RealFolder, StdSink};
 use repair_run::{Status, repair};
@@ -12,7 +12,7 @@ use std::alloc::Global;
 use std::env;
 use std::io::ErrorKind;
 use std::process::ExitCode;
-use text_names::{Text, TextFault};
+use text_names::{Limits, Text, TextFault};
 
 // Exit statuses where the words themselves can't be handed on; nothing is printed then.
 const WORDS: u8 = 2;
@@ -54,6 +54,7 @@ fn main(rt: HostRuntime) -> ExitCode {
     };
     let mut folder = RealFolder::new(&rt, alloc);
     let mut out = StdSink::new(&rt);
-    let status = repair(alloc, words.as_slice(), &mut folder, &mut out);
+    let limits = Limits::standard();
+    let status = repair(alloc, words.as_slice(), &limits, &mut folder, &mut out);
     ended_with(&status)
 }

@@ -4,9 +4,10 @@ ghost use Rattle.std.specs.Prelude.{◌≡◌, ◌≤◌, ◌++◌, ℕ, List, [
 ghost use Rattle.conflict_logic.specs.Sets.{IsClosedUnderAdding};
 ghost use Rattle.el_logic.specs.declared.types.Part.{Part};
 ghost use Rattle.case_file.specs.Incoherence.{IsIncoherentFor};
+ghost use Rattle.conflict_logic.specs.Repair.{IsRepair};
 ghost use Rattle.accuse_core.specs.declared.journal.Entry.{Entry};
 ghost use Rattle.accuse_core.specs.Journal.{replayed};
-ghost use Rattle.accuse_core.specs.Marks.{kept_of, number_kept};
+ghost use Rattle.accuse_core.specs.Marks.{front_of, kept_of, number_kept};
 ghost use Rattle.accuse_core.specs.Sound.{AreKeptBeforeFront, AreSound};
 ghost use Rattle.commit_book.specs.Books.{IsBook, ranks_of};
 ghost use Rattle.commit_book.specs.Inside.Laws.{KeptLaws, BlockLaws, JournalLaws, VerdictLaws, Laws};
@@ -14,8 +15,8 @@ ghost use Rattle.commit_book.specs.Inside.Laws.{KeptLaws, BlockLaws, JournalLaws
 use crate::book::Book;
 use accuse_core::{
     allowed_events_leave_sound_marks, asking_leaves_the_marks, blocks_keep_what_is_not_removed,
-    events_leave_the_ranks, journals_grow_by_an_event, kept_ranks_have_the_mark,
-    kept_ranks_only_grow,
+    events_leave_the_ranks, journals_grow_by_an_event, kept_ranks_are_the_repair,
+    kept_ranks_have_the_mark, kept_ranks_only_grow,
 };
 use case_file::more_rows_stay_incoherent;
 use closed_model::a_closed_table_shows_coherence;
@@ -69,6 +70,17 @@ pub fn books_are_sound(book: &Book)
     let _ = book.journal();
     family_laws(book);
     allowed_events_leave_sound_marks(book);
+}
+
+/// The kept ranks are the repair of the ranks before the front. So once every rank is decided, they
+/// are the repair of all.
+pub fn books_hold_a_repair(book: &Book)
+    ensures { IsRepair (IsIncoherentFor book.now.case Part.Both) (front_of book.now.marks)
+        (kept_of book.now.marks) }
+{
+    let _ = book.journal();
+    family_laws(book);
+    kept_ranks_are_the_repair(book);
 }
 
 /// What the calls rest on: the laws, and that the kept ranks are before the front.

@@ -10,4 +10,4 @@ mod telling;
 
 pub use answers::{FrontAnswer, TakeAnswer, Taken};
 pub use book::Book;
-pub use laws::{books_are_sound, kept_ranks_stay_first};
+pub use laws::{books_are_sound, books_hold_a_repair, kept_ranks_stay_first};

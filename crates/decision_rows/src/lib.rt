@@ -2,13 +2,9 @@
 #![tactic(auto)]
 
 #[cfg(test)]
-mod blocks;
-#[cfg(test)]
 mod incoherent;
 #[cfg(test)]
 mod kept;
-#[cfg(test)]
-mod needed;
 #[cfg(test)]
 mod setting;
 #[cfg(test)]

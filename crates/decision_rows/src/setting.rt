@@ -5,12 +5,12 @@ ghost use Rattle.std.specs.Prelude.{IsTrue, All, ◌<◌};
 use case_load::{LoadFault, Loaded, assemble};
 use closed_model::ClosedTable;
 use ofn_axiom::Mode;
-use saturate::{Verdict, test, test_block};
+use saturate::{Verdict, test};
 use std::alloc::Global;
 use std::test::Fail;
 use text_names::Limits;
 
-pub(crate) fn made(alloc: Global, left: &str, right: &str, map: &str) -> Result<Loaded, LoadFault> {
+pub fn made(alloc: Global, left: &str, right: &str, map: &str) -> Result<Loaded, LoadFault> {
     let limits = Limits::standard();
     let left = left.as_bytes();
     let right = right.as_bytes();
@@ -37,7 +37,7 @@ fn are_before(ranks: &[u32], rank: u32) -> bool
 }
 
 // The verdict on one more rank.
-pub(crate) fn tested(alloc: Global, table: &ClosedTable, rank: u32) -> Result<Verdict, Fail> {
+pub fn tested(alloc: Global, table: &ClosedTable, rank: u32) -> Result<Verdict, Fail> {
     if rank >= table.case().ranks() {
         return Err("no such rank".into());
     }
@@ -47,25 +47,8 @@ pub(crate) fn tested(alloc: Global, table: &ClosedTable, rank: u32) -> Result<Ve
     Ok(test(alloc, table, rank)?)
 }
 
-/// The verdict on two more ranks, the lower one first.
-pub fn tested_both(
-    alloc: Global,
-    table: &ClosedTable,
-    one: u32,
-    other: u32,
-) -> Result<Verdict, Fail> {
-    if one >= other || other >= table.case().ranks() {
-        return Err("no such ranks".into());
-    }
-    if !are_before(table.ranks(), one) {
-        return Err("ranks that don't ascend".into());
-    }
-    let ranks = [one, other];
-    Ok(test_block(alloc, table, ranks.as_slice())?)
-}
-
 /// The table of the ranks that are kept, going down all ranks.
-pub(crate) fn chosen(alloc: Global, first: ClosedTable) -> Result<ClosedTable, Fail> {
+pub fn chosen(alloc: Global, first: ClosedTable) -> Result<ClosedTable, Fail> {
     let mut table = first;
     for rank in 0..table.case().ranks() {
         match tested(alloc, &table, rank)? {

@@ -66,24 +66,22 @@ makes spell Fits fields made found e whole fits =
 abbrev pub one_number : ℕ → Fields
 one_number n = decimal n ∷ []
 
-with_rest_is : {X : Type 0} → (rest : Fields) (o : Option X) (found : X × Fields) → with_rest rest o ≡ Some found → (o ≡ Some found.0) × (rest ≡ found.1)
-with_rest_is rest None found e = none_is found e
-with_rest_is rest (Some x) found e =
-    let same = some_is (x, rest) found e in (ap (λ p. Some p.0) same, ap (λ p. p.1) same)
-
+-- what is made of the first field is found, with the rest
 pub rest_is : {X : Type 0} → (rest : Fields) (o : Option X) (found : X × Fields) → with_rest rest o ≡ Some found → (o ≡ Some found.0) × (rest ≡ found.1)
-rest_is rest o found e = with_rest_is rest o found e
+rest_is rest None found e = none_is found e
+rest_is rest (Some x) found e =
+    let same = some_is (x, rest) found e in (ap (λ p. Some p.0) same, ap (λ p. p.1) same)
 
 pub short_takes : NumberLaw → (fields : Fields) (found : ℕ × Fields) → short_in fields ≡ Some found → Takes one_number (λ n. n < 2 ^ 32) fields found
 short_takes law [] found e = none_is found e
 short_takes law (field ∷ rest) found e =
-    let is = with_rest_is rest (short_number field) found e in
+    let is = rest_is rest (short_number field) found e in
     let number = law.short field found.0 is.0 in
     record { whole = ap (λ f. f ∷ rest) number.0 ∙ ap (λ r. decimal found.0 ∷ r) is.1; fits = number.1 }
 
 pub long_takes : NumberLaw → (fields : Fields) (found : ℕ × Fields) → long_in fields ≡ Some found → Takes one_number (λ n. n < 2 ^ 64) fields found
 long_takes law [] found e = none_is found e
 long_takes law (field ∷ rest) found e =
-    let is = with_rest_is rest (long_number field) found e in
+    let is = rest_is rest (long_number field) found e in
     let number = law.long field found.0 is.0 in
     record { whole = ap (λ f. f ∷ rest) number.0 ∙ ap (λ r. decimal found.0 ∷ r) is.1; fits = number.1 }

@@ -4,9 +4,13 @@ use Rattle.std.specs.List.{AllByRecursion, flat_map}
 use Rattle.byte_words.specs.Bytes.{is_space, is_line_feed}
 use Rattle.byte_words.specs.Lists.{AllFailing}
 
+-- a field is its bytes
+abbrev pub Field : Type 0
+Field = List ℕ
+
 -- the fields of a line
 abbrev pub Fields : Type 0
-Fields = List (List ℕ)
+Fields = List Field
 
 -- fields, each after a space
 abbrev pub spaced : Fields → List ℕ

@@ -131,8 +131,8 @@ fn first_empty(case: &Case, i: &Interp) -> Option<u32>
 
 /// Whether an interpretation is a model of the case for these ranks. The first fault in this order
 /// is answered: its form, the first axiom of LEFT, RIGHT and the rows with the ranks that doesn't
-/// hold, the first class that must have a member and has none. The domain is never walked or listed,
-/// however large it is: an axiom costs about the lists of the names that occur in it.
+/// hold, the first class that must have a member and has none. The domain is never walked or
+/// listed, however large it is: an axiom costs about the lists of the names that occur in it.
 pub fn check_model(
     alloc: Global,
     case: &Case,

@@ -9,8 +9,8 @@ use el_logic::{Axiom, Interp, holds};
 use std::alloc::{AllocError, Global};
 
 /// Whether the axiom holds (OWL 2 direct semantics, section 2.3). The domain is never walked or
-/// listed, however large it is: the time and the memory of a call go with the lists of the names that
-/// occur, and with the pairs of the compositions within a chain.
+/// listed, however large it is: the time and the memory of a call go with the lists of the names
+/// that occur, and with the pairs of the compositions within a chain.
 pub fn holds_by_lists(alloc: Global, i: &Interp, a: &Axiom) -> Result<bool, AllocError>
     requires { IsInterp (length i.now.classes) (length i.now.roles) i.now }
     ensures { IfOk result (λ yes. IsTrue yes ↔ Holds i.now a.now) }

@@ -1,204 +1,186 @@
 -- What a run answers, from why it stopped or was done.
-use Rattle.std.proofs.Common.{◌≡◌, List, ℕ, Option, Some, None, IfSome, inl, inr, refl, sym, ◌∙◌, ap, subst, ⊎_elim}
-use Rattle.io_edge.specs.Outside.{Files, SinkSeen}
+use Rattle.std.proofs.Common.{◌≡◌, List, ℕ, inl, inr, refl, sym, ◌∙◌, ap, subst, ⊎_elim}
+use Rattle.std.specs.Prelude.{Option, Some, None, IfSome}
+use Rattle.text_names.specs.declared.limits.Limits.{Limits}
+use Rattle.io_edge.specs.Outside.{Files, ReadsRose}
 use Rattle.io_edge.specs.declared.outside.Role.{Role}
+use Rattle.io_edge.specs.declared.outside.Role.TheVariants as role
 use Rattle.io_edge.specs.declared.outside.Target.TheVariants as Target
 use Rattle.el_logic.specs.declared.types.Part.{Part}
-use Rattle.repair_run.specs.declared.first_form.DocumentText.{DocumentText}
-use Rattle.repair_run.specs.declared.first_form.TableText.{TableText}
-use Rattle.repair_run.specs.declared.status.Status.{Status}
-use Rattle.repair_run.specs.Axioms.{AreCoherentTogether, IsFoundIn}
-use Rattle.repair_run.specs.Inside.Plan.{Plan, Refused, plan, Ready}
-use Rattle.repair_run.specs.Run.{Run, IfTold, Outcome, HasGotSummary, IsDone, IsIncoherentCase, IsRun, FilesStand, OutputStands, IsOrMemory, IsOrReadStop}
-use Rattle.repair_run.specs.Inside.Stops.{IsStop, IsQuiet}
-use Rattle.repair_run.specs.Texts.{AreRead, IsUnbuilt, Texts}
-use Rattle.repair_run.specs.Words.{FileNames}
-use Rattle.repair_run.proofs.FoundLaws.{one_found_in, found_incoherent}
-use Rattle.repair_run.proofs.PlanLaws.{read_ready, unbuilt_refused}
+use Rattle.el_logic.specs.Incoherent.{IsFirstIncoherent}
+use Rattle.ofn_axiom.specs.declared.types.Mode.TheVariants.{Strict}
+use Rattle.ofn_axiom.specs.declared.types.Names.{Names}
+use Rattle.case_file.specs.Cases.{CaseView}
+use Rattle.case_load.specs.Folders.{IsNotRead}
+use Rattle.case_load.specs.declared.fault.LoadFault.{LoadFault}
+use Rattle.case_load.specs.declared.fault.LoadFault.TheVariants as load
+use Rattle.case_load.specs.declared.texts.Loaded.{Loaded}
+use Rattle.status_lines.specs.declared.status.Status.{Status}
+use Rattle.status_lines.specs.Lines.{status_of}
+use Rattle.repair_run.specs.Words.{FileNames, name_of}
+use Rattle.repair_run.specs.Outcomes.{AreLoaded, AreCoherentTogether, IsIncoherentCase, IsRepairable, case_in, inputs_named, iri_of_class}
+use Rattle.repair_run.specs.Run.{Run, IfTold, IsRunFault, IsDone, IsRun, FilesStand, HasNoFault, IsOrMemory, IsOrReadStop}
+use Rattle.repair_run.specs.Inside.Stops.{IsStop}
+use Rattle.repair_run.proofs.FaultLaws.{OneAnswer, IsNoRead, loaded_or_fault, one_loaded, one_file_fault}
+use Rattle.repair_run.proofs.FoundLaws.{MoreStay, one_part, is_incoherent, one_iri}
 
--- the files have one plan at most, so a file that can't be taken excludes texts that are read, and there is one such file
-ready_refused : (role : Role) (left right : DocumentText) (table : TableText) (p : Plan) → p ≡ Ready left right table → p ≡ Refused role → ⊥
-ready_refused role left right table p e f = let h : Ready left right table ≡ Refused role = sym e ∙ f in cc
+-- what is known if the files are told
+told : (o : Option Files) (P : Files → Type 0) → ((files : Files) → o ≡ Some files → P files) → IfSome o P
+told None P h = tt
+told (Some files) P h = h files refl
 
-same_refused : (a b : Role) (p : Plan) → p ≡ Refused a → p ≡ Refused b → a ≡ b
-same_refused a b p e f = let h : Refused a ≡ Refused b = sym e ∙ f in cc
+-- a read of an input that failed is one of its name
+read_rose : (run : Run) (names : FileNames) (most : ℕ) (file : Role) → IsNotRead run.folder run.folder_after (inputs_named names) most file
+    → ReadsRose run.folder run.folder_after (name_of names file)
+read_rose run names most role.Left h = h.1
+read_rose run names most role.Right h = h.1
+read_rose run names most role.Map h = h.1
+read_rose run names most role.Out h = absurd h.0
+read_rose run names most role.Evidence h = absurd h.0
 
-same_ready : (l l' r r' : DocumentText) (t t' : TableText) (p : Plan) → p ≡ Ready l r t → p ≡ Ready l' r' t' → (l ≡ l') × (r ≡ r') × (t ≡ t')
-same_ready l l' r r' t t' p e f = let h : Ready l r t ≡ Ready l' r' t' = sym e ∙ f in (cc, cc, cc)
+module _ (laws : OneAnswer) (more : MoreStay) (run : Run) (names : FileNames) (limits : Limits) where
+  module _ (files : Files) (are : run.folder.files ≡ Some files) where
+    -- files that are read have no fault
+    no_fault : (loaded : Loaded) (fault : LoadFault) → AreLoaded run.folder names limits loaded → IsNoRead fault → IsRunFault run names limits fault → ⊥
+    no_fault = loaded_or_fault laws run.folder run.folder_after files are (inputs_named names) Strict limits
 
-pub same_read : (files : Files) (names : FileNames) (l l' r r' : DocumentText) (t t' : TableText) → AreRead files names l r t → AreRead files names l' r' t' → (l ≡ l') × (r ≡ r') × (t ≡ t')
-same_read files names l l' r r' t t' h k = same_ready l l' r r' t t' (plan files names) (read_ready files names l r t h) (read_ready files names l' r' t' k)
+    -- one part and one class are the first that is found
+    one_found : (part part' : Part) (iri iri' : List ℕ) → IsIncoherentCase run.folder names limits part iri
+        → IsIncoherentCase run.folder names limits part' iri' → (part ≡ part') × (iri ≡ iri')
+    one_found part part' iri iri' h k =
+        let same = one_loaded laws run.folder run.folder_after files are (inputs_named names) Strict limits h.loaded k.loaded h.read k.read in
+        let case = case_in k.loaded in
+        let first = subst (λ (c : CaseView). IsFirstIncoherent c.classes c.properties c.left c.right part h.class) same.case h.first in
+        let named = subst (λ (n : Names). iri_of_class n.classes.names h.class ≡ Some iri) same.names h.named in
+        let one = one_part case.classes case.properties case.left case.right part part' h.class k.class first k.first in
+        (one.0, one_iri k.loaded.names.classes.names h.class k.class iri iri' one.1 named k.named)
 
-module _ (files : Files) (names : FileNames) where
-  texts_ready : (t : Texts files names) → plan files names ≡ Ready t.left t.right t.table
-  texts_ready t = read_ready files names t.left t.right t.table t.read
+    -- documents that are coherent together have no first part that is not
+    no_part : (part : Part) (iri : List ℕ) → IsIncoherentCase run.folder names limits part iri → (loaded : Loaded)
+        → AreLoaded run.folder names limits loaded → AreCoherentTogether loaded → ⊥
+    no_part part iri h loaded read coherent =
+        let same = one_loaded laws run.folder run.folder_after files are (inputs_named names) Strict limits h.loaded loaded h.read read in
+        let case = case_in loaded in
+        let first = subst (λ (c : CaseView). IsFirstIncoherent c.classes c.properties c.left c.right part h.class) same.case h.first in
+        coherent (is_incoherent case.classes case.properties more case.left case.right part h.class first)
 
-  unbuilt_texts : (role : Role) → IsUnbuilt files names role → Texts files names → ⊥
-  unbuilt_texts role u t = ready_refused role t.left t.right t.table (plan files names) (texts_ready t) (unbuilt_refused files names role u)
+    -- where the files have a fault, a run that stops says so, unless a read failed or memory ran out
+    fault_stop : (fault : LoadFault) → IsNoRead fault → IsRunFault run names limits fault → (s : Status) → IsStop run names limits s → IsOrReadStop (status_of fault) s
+    fault_stop fault n f s h = by s h
+      where
+        same : (other : LoadFault) → IsNoRead other → IsRunFault run names limits other → IsOrReadStop (status_of fault) (status_of other)
+        same other m g = inl (ap status_of (one_file_fault laws run.folder run.folder_after files are (inputs_named names) Strict limits other fault m n g f))
 
-  same_role : (a b : Role) → IsUnbuilt files names a → IsUnbuilt files names b → a ≡ b
-  same_role a b u v = same_refused a b (plan files names) (unbuilt_refused files names a u) (unbuilt_refused files names b v)
+        by : (s : Status) → IsStop run names limits s → IsOrReadStop (status_of fault) s
+        by (Status.ReadFault file) h = inr (inl (file, refl))
+        by (Status.Syntax side place kind) h = same (load.Syntax side place kind) tt h
+        by (Status.Profile side place head) h = same (load.Profile side place head) tt h
+        by (Status.Table other) h = same (load.Table other) tt h
+        by (Status.Limit kind) h = same (load.Limit kind) tt h
+        by (Status.Incoherent part iri) h = absurd (no_fault h.loaded fault h.read n f)
+        by (Status.WriteFault Target.Out) h = absurd (no_fault h.1.loaded fault h.1.read n f)
+        by (Status.WriteFault Target.Output) h = absurd (no_fault h.1.loaded fault h.1.read n f)
+        by (Status.WriteFault Target.Evidence) h = absurd h
+        by Status.OutOfMemory h = inr (inr refl)
+        by Status.Done h = absurd h
+        by Status.Words h = absurd h
 
-  same_documents : (t u : Texts files names) → (t.left ≡ u.left) × (t.right ≡ u.right) × (t.table ≡ u.table)
-  same_documents t u = same_read files names t.left u.left t.right u.right t.table u.table t.read u.read
+    -- and it names the first empty class if the documents leave a class empty
+    incoherent_stop : (part : Part) (iri : List ℕ) → IsIncoherentCase run.folder names limits part iri → (s : Status) → IsStop run names limits s
+        → IsOrReadStop (Status.Incoherent part iri) s
+    incoherent_stop part iri case (Status.ReadFault file) h = inr (inl (file, refl))
+    incoherent_stop part iri case (Status.Syntax side place kind) h = absurd (no_fault case.loaded (load.Syntax side place kind) case.read tt h)
+    incoherent_stop part iri case (Status.Profile side place head) h = absurd (no_fault case.loaded (load.Profile side place head) case.read tt h)
+    incoherent_stop part iri case (Status.Table fault) h = absurd (no_fault case.loaded (load.Table fault) case.read tt h)
+    incoherent_stop part iri case (Status.Limit kind) h = absurd (no_fault case.loaded (load.Limit kind) case.read tt h)
+    incoherent_stop part iri case (Status.Incoherent part' iri') h =
+        let same = one_found part' part iri' iri h case in
+        inl (ap {B = Status} (λ (r : Part). Status.Incoherent r iri') same.0 ∙ ap {B = Status} (λ (i : List ℕ). Status.Incoherent part i) same.1)
+    incoherent_stop part iri case (Status.WriteFault Target.Out) h = absurd (no_part part iri case h.1.loaded h.1.read h.1.coherent)
+    incoherent_stop part iri case (Status.WriteFault Target.Output) h = absurd (no_part part iri case h.1.loaded h.1.read h.1.coherent)
+    incoherent_stop part iri case (Status.WriteFault Target.Evidence) h = absurd h
+    incoherent_stop part iri case Status.OutOfMemory h = inr (inr refl)
+    incoherent_stop part iri case Status.Done h = absurd h
+    incoherent_stop part iri case Status.Words h = absurd h
 
-  -- where the documents leave a class empty, a run that stops names the first, or a fault of a read or want of memory came first
-  same_case : (part part' : Part) (iri iri' : List ℕ) → IsIncoherentCase files names part iri → IsIncoherentCase files names part' iri' → (part ≡ part') × (iri ≡ iri')
-  same_case part part' iri iri' h k =
-      let same = same_documents h.0 k.0 in
-      one_found_in k.0.left k.0.right part part' iri iri'
-      (subst (λ (r : DocumentText). IsFoundIn k.0.left r part iri) same.1 (subst (λ (l : DocumentText). IsFoundIn l h.0.right part iri) same.0 h.1)) k.1
-
-  no_repair : (part : Part) (iri : List ℕ) → IsIncoherentCase files names part iri → (t : Texts files names) → AreCoherentTogether t.left t.right → ⊥
-  no_repair part iri h t coherent =
-      let same = same_documents h.0 t in
-      found_incoherent t.left t.right part iri
-      (subst (λ (r : DocumentText). IsFoundIn t.left r part iri) same.1 (subst (λ (l : DocumentText). IsFoundIn l h.0.right part iri) same.0 h.1)) coherent
-
--- what is known of the files before a run, if they are told
-if_told : (told : Option Files) (P Q : Files → Type 0) → ((files : Files) → P files → Q files) → IfSome told P → IfSome told Q
-if_told None P Q turn h = tt
-if_told (Some files) P Q turn h = turn files h
-
--- what holds of any files
-of_any : (told : Option Files) (P : Files → Type 0) → ((files : Files) → P files) → IfSome told P
-of_any None P each = tt
-of_any (Some files) P each = each files
-
--- a run that is done has found no part incoherent and no file unbuilt
-abbrev texts_of : (files : Files) (names : FileNames) → Outcome files names → Texts files names
-texts_of files names o = record { left = o.left; right = o.right; table = o.table; read = o.read }
-
-module _ (run : Run) (names : FileNames) where
-  -- a run that stops says so if a file can't be taken, unless a fault of a read came first, or memory ran out
-  refused_stop : (role : Role) (s : Status) → IsStop run names s → IfTold run (λ files. IsUnbuilt files names role → IsOrReadStop (Status.Unbuilt role) s)
-  refused_stop role (Status.ReadFault file) h = of_any run.folder.files _ (λ files u. inr (inl (file, refl)))
-  refused_stop role (Status.Unbuilt file) h = if_told run.folder.files _ _ (λ files other u. inl (ap {B = Status} (λ (r : Role). Status.Unbuilt r) (same_role files names file role other u))) h
-  refused_stop role Status.OutOfMemory h = of_any run.folder.files _ (λ files u. inr (inr refl))
-  refused_stop role (Status.Incoherent part iri) h = if_told run.folder.files _ _ (λ files case u. absurd (unbuilt_texts files names role u case.0)) h
-  refused_stop role (Status.WriteFault Target.Out) h = if_told run.folder.files _ _ (λ files r u. absurd (unbuilt_texts files names role u r.0)) h.1
-  refused_stop role (Status.WriteFault Target.Output) h = if_told run.folder.files _ _ (λ files r u. absurd (unbuilt_texts files names role u r.0)) h.1
-  refused_stop role _ h = absurd h
-
-  -- and it names the first empty class if the documents leave a class empty
-  incoherent_stop : (part : Part) (iri : List ℕ) (s : Status) → IsStop run names s
-      → IfTold run (λ files. IsIncoherentCase files names part iri → IsOrReadStop (Status.Incoherent part iri) s)
-  incoherent_stop part iri (Status.ReadFault file) h = of_any run.folder.files _ (λ files u. inr (inl (file, refl)))
-  incoherent_stop part iri (Status.Unbuilt file) h = if_told run.folder.files _ _ (λ files other u. absurd (unbuilt_texts files names file other u.0)) h
-  incoherent_stop part iri Status.OutOfMemory h = of_any run.folder.files _ (λ files u. inr (inr refl))
-  incoherent_stop part iri (Status.Incoherent part' iri') h = if_told run.folder.files _ _
-      (λ files other u. let same = same_case files names part' part iri' iri other u in
-      inl (ap {B = Status} (λ (r : Part). Status.Incoherent r iri') same.0 ∙ ap {B = Status} (λ (i : List ℕ). Status.Incoherent part i) same.1)) h
-  incoherent_stop part iri (Status.WriteFault Target.Out) h = if_told run.folder.files _ _ (λ files r u. absurd (no_repair files names part iri u r.0 r.1)) h.1
-  incoherent_stop part iri (Status.WriteFault Target.Output) h = if_told run.folder.files _ _ (λ files r u. absurd (no_repair files names part iri u r.0 r.1)) h.1
-  incoherent_stop part iri _ h = absurd h
+    -- nothing but memory stops a run over files that are read and coherent, if nothing failed
+    complete_stop : HasNoFault run names → IsRepairable run.folder names limits → (s : Status) → IsStop run names limits s → IsOrMemory Status.Done s
+    complete_stop none r (Status.ReadFault file) h = absurd (none.reads file (read_rose run names limits.file_bytes file h))
+    complete_stop none r (Status.Syntax side place kind) h = absurd (no_fault r.loaded (load.Syntax side place kind) r.read tt h)
+    complete_stop none r (Status.Profile side place head) h = absurd (no_fault r.loaded (load.Profile side place head) r.read tt h)
+    complete_stop none r (Status.Table fault) h = absurd (no_fault r.loaded (load.Table fault) r.read tt h)
+    complete_stop none r (Status.Limit kind) h = absurd (no_fault r.loaded (load.Limit kind) r.read tt h)
+    complete_stop none r (Status.Incoherent part iri) h = absurd (no_part part iri h r.loaded r.read r.coherent)
+    complete_stop none r (Status.WriteFault Target.Out) h = absurd (none.write h.0)
+    complete_stop none r (Status.WriteFault Target.Output) h = absurd (none.put h.0)
+    complete_stop none r (Status.WriteFault Target.Evidence) h = absurd h
+    complete_stop none r Status.OutOfMemory h = inr refl
+    complete_stop none r Status.Done h = absurd h
+    complete_stop none r Status.Words h = absurd h
 
   -- a run that is done
-  pub done_run : IsDone run names → HasGotSummary run → IsRun run names Status.Done
-  done_run done summary = record {
+  pub done_run : IsDone run names limits → IsRun run names limits Status.Done
+  done_run done = record {
     done = λ same. done;
-    summary = λ same. summary;
     words = λ (same : Status.Done ≡ Status.Words). cc;
     read_fault = λ file (same : Status.Done ≡ Status.ReadFault file). absurd cc;
-    unbuilt = λ file (same : Status.Done ≡ Status.Unbuilt file). absurd cc;
-    unbuilt_answer = λ file. if_told run.folder.files _ _ (λ files d u. absurd (unbuilt_texts files names file u (texts_of files names d.0))) done;
+    syntax = λ side place kind (same : Status.Done ≡ Status.Syntax side place kind). absurd cc;
+    syntax_answer = λ side place kind. no_answer (load.Syntax side place kind) tt;
+    profile = λ side place head (same : Status.Done ≡ Status.Profile side place head). absurd cc;
+    profile_answer = λ side place head. no_answer (load.Profile side place head) tt;
+    table = λ fault (same : Status.Done ≡ Status.Table fault). absurd cc;
+    table_answer = λ fault. no_answer (load.Table fault) tt;
+    limit = λ kind (same : Status.Done ≡ Status.Limit kind). absurd cc;
+    limit_answer = λ kind. no_answer (load.Limit kind) tt;
     incoherent = λ part class (same : Status.Done ≡ Status.Incoherent part class). absurd cc;
-    incoherent_answer = λ part class. if_told run.folder.files _ _
-        (λ files d case. absurd (no_repair files names part class case (texts_of files names d.0) d.0.chosen.coherent)) done;
+    incoherent_answer = λ part class. told run.folder.files _ (λ files are case. absurd (no_part files are part class case done.0.loaded done.0.read done.0.coherent));
     write_fault = λ (same : Status.Done ≡ Status.WriteFault Target.Out). absurd cc;
     output_fault = λ (same : Status.Done ≡ Status.WriteFault Target.Output). absurd cc;
-    files = if_told run.folder.files _ _ (λ files d. (d.0, d.1)) done;
+    complete = told run.folder.files _ (λ files are none r. inl refl);
+    files = (done.0, done.1);
   }
+    where
+      no_answer : (fault : LoadFault) → IsNoRead fault → IfTold run (λ files. IsRunFault run names limits fault → IsOrReadStop (status_of fault) Status.Done)
+      no_answer fault n = told run.folder.files _ (λ files are f. absurd (no_fault files are done.0.loaded fault done.0.read n f))
 
   -- a run that stops
-  stopped_run : (s : Status) → IsStop run names s → FilesStand run names s → IsRun run names s
+  stopped_run : (s : Status) → IsStop run names limits s → FilesStand run names limits s → IsRun run names limits s
   stopped_run s stop files = record {
-    done = λ same. absurd (subst (IsStop run names) same stop);
-    summary = λ same. absurd (subst (IsStop run names) same stop);
-    words = λ same. subst (IsStop run names) same stop;
-    read_fault = λ file same. subst (IsStop run names) same stop;
-    unbuilt = λ file same. subst (IsStop run names) same stop;
-    unbuilt_answer = λ file. refused_stop file s stop;
-    incoherent = λ part class same. subst (IsStop run names) same stop;
-    incoherent_answer = λ part class. incoherent_stop part class s stop;
-    write_fault = λ same. subst (IsStop run names) same stop;
-    output_fault = λ same. subst (IsStop run names) same stop;
+    done = λ same. absurd (subst (IsStop run names limits) same stop);
+    words = λ same. subst (IsStop run names limits) same stop;
+    read_fault = λ file same. subst (IsStop run names limits) same stop;
+    syntax = λ side place kind same. subst (IsStop run names limits) same stop;
+    syntax_answer = λ side place kind. answers (load.Syntax side place kind) tt;
+    profile = λ side place head same. subst (IsStop run names limits) same stop;
+    profile_answer = λ side place head. answers (load.Profile side place head) tt;
+    table = λ fault same. subst (IsStop run names limits) same stop;
+    table_answer = λ fault. answers (load.Table fault) tt;
+    limit = λ kind same. subst (IsStop run names limits) same stop;
+    limit_answer = λ kind. answers (load.Limit kind) tt;
+    incoherent = λ part class same. subst (IsStop run names limits) same stop;
+    incoherent_answer = λ part class. told run.folder.files _ (λ f are case. incoherent_stop f are part class case s stop);
+    write_fault = λ same. subst (IsStop run names limits) same stop;
+    output_fault = λ same. subst (IsStop run names limits) same stop;
+    complete = told run.folder.files _ (λ f are none r. complete_stop f are none r s stop);
     files = files;
   }
+    where
+      answers : (fault : LoadFault) → IsNoRead fault → IfTold run (λ files. IsRunFault run names limits fault → IsOrReadStop (status_of fault) s)
+      answers fault n = told run.folder.files _ (λ f are g. fault_stop f are fault n g s stop)
 
   -- how the files stand if memory ran out in place of another answer
-  memory_files : (s : Status) → IsStop run names s → FilesStand run names s → FilesStand run names Status.OutOfMemory
+  memory_files : (s : Status) → IsStop run names limits s → FilesStand run names limits s → FilesStand run names limits Status.OutOfMemory
   memory_files (Status.WriteFault Target.Out) h f = inr (inr (h.0, f))
   memory_files (Status.WriteFault Target.Output) h f = inr (inl f)
+  memory_files (Status.WriteFault Target.Evidence) h f = absurd h
   memory_files Status.OutOfMemory h f = f
-  memory_files (Status.Incoherent part class) h f = inl f
-  memory_files (Status.ReadFault file) h f = inl f
-  memory_files (Status.Unbuilt file) h f = inl f
-  memory_files _ h f = absurd h
+  memory_files Status.Done h f = absurd h
+  memory_files Status.Words h f = absurd h
+  memory_files _ h f = inl f
 
   -- a run that stops, or ran out of memory while its line was put
-  pub refused_run : (s s' : Status) → IsStop run names s → FilesStand run names s → IsOrMemory s s' → IsRun run names s'
+  pub refused_run : (s s' : Status) → IsStop run names limits s → FilesStand run names limits s → IsOrMemory s s' → IsRun run names limits s'
   refused_run s s' stop files m = ⊎_elim
-      (λ e. subst (IsRun run names) (sym e) (stopped_run s stop files))
-      (λ e. subst (IsRun run names) (sym e) (stopped_run Status.OutOfMemory tt (memory_files s stop files)))
+      (λ e. subst (IsRun run names limits) (sym e) (stopped_run s stop files))
+      (λ e. subst (IsRun run names limits) (sym e) (stopped_run Status.OutOfMemory tt (memory_files s stop files)))
       m
-
--- putting the line of a refusal changes nothing of why the run stopped, nor of its files
-pub later_stop : (run : Run) (names : FileNames) (after : SinkSeen) (s : Status) → (s ≡ Status.WriteFault Target.Output → after ≡ run.output_after)
-    → IsStop run names s → IsStop (record run { output_after = after }) names s
-later_stop run names after (Status.WriteFault Target.Output) same h =
-    subst (λ (out : SinkSeen). IsStop (record run { output_after = out }) names (Status.WriteFault Target.Output)) (sym (same refl)) h
-later_stop run names after (Status.ReadFault file) same h = h
-later_stop run names after (Status.Unbuilt file) same h = h
-later_stop run names after (Status.Incoherent part iri) same h = h
-later_stop run names after (Status.WriteFault Target.Out) same h = h
-later_stop run names after Status.OutOfMemory same h = tt
-later_stop run names after _ same h = absurd h
-
-pub later_files : (run : Run) (names : FileNames) (after : SinkSeen) (s : Status) → FilesStand run names s → FilesStand (record run { output_after = after }) names s
-later_files run names after (Status.WriteFault Target.Out) h = h
-later_files run names after (Status.WriteFault Target.Evidence) h = h
-later_files run names after (Status.WriteFault Target.Output) h = h
-later_files run names after Status.Done h = h
-later_files run names after Status.OutOfMemory h = h
-later_files run names after Status.Words h = h
-later_files run names after (Status.ReadFault file) h = h
-later_files run names after (Status.Unbuilt file) h = h
-later_files run names after (Status.Incoherent part iri) h = h
-
--- the line that was put comes after what the output had at first
-module _ (old mid new : SinkSeen) where
-  at_memory : mid.got ≡ old.got → OutputStands mid new Status.OutOfMemory → OutputStands old new Status.OutOfMemory
-  at_memory e h = subst (λ (g : Option (List ℕ)). OutputStands (record mid { got = g }) new Status.OutOfMemory) e h
-
-  same_output : (s : Status) → IsQuiet old mid s → OutputStands mid new s → OutputStands old new s
-  same_output Status.Done k h = tt
-  same_output (Status.WriteFault Target.Output) k h = tt
-  same_output Status.OutOfMemory k h = at_memory k h
-  same_output Status.Words k h = subst (λ (seen : SinkSeen). OutputStands seen new Status.Words) k h
-  same_output (Status.Incoherent part class) k h = subst (λ (seen : SinkSeen). OutputStands seen new (Status.Incoherent part class)) k h
-  same_output (Status.ReadFault file) k h = subst (λ (seen : SinkSeen). OutputStands seen new (Status.ReadFault file)) k h
-  same_output (Status.WriteFault Target.Out) k h = subst (λ (seen : SinkSeen). OutputStands seen new (Status.WriteFault Target.Out)) k h
-  same_output (Status.WriteFault Target.Evidence) k h = subst (λ (seen : SinkSeen). OutputStands seen new (Status.WriteFault Target.Evidence)) k h
-  same_output (Status.Unbuilt file) k h = subst (λ (seen : SinkSeen). OutputStands seen new (Status.Unbuilt file)) k h
-
-  -- nothing was put before the line, unless the summary was
-  got_before : (s : Status) → IsQuiet old mid s → (s ≡ Status.WriteFault Target.Output → ⊥) → mid.got ≡ old.got
-  got_before (Status.WriteFault Target.Output) k other = absurd (other refl)
-  got_before Status.OutOfMemory k other = k
-  got_before Status.Done k other = ap (λ (seen : SinkSeen). seen.got) k
-  got_before Status.Words k other = ap (λ (seen : SinkSeen). seen.got) k
-  got_before (Status.Incoherent part class) k other = ap (λ (seen : SinkSeen). seen.got) k
-  got_before (Status.ReadFault file) k other = ap (λ (seen : SinkSeen). seen.got) k
-  got_before (Status.WriteFault Target.Out) k other = ap (λ (seen : SinkSeen). seen.got) k
-  got_before (Status.WriteFault Target.Evidence) k other = ap (λ (seen : SinkSeen). seen.got) k
-  got_before (Status.Unbuilt file) k other = ap (λ (seen : SinkSeen). seen.got) k
-
-  pub refused_output : (s s' : Status) → IsQuiet old mid s → IsOrMemory s s' → (s ≡ Status.WriteFault Target.Output → s' ≡ s) → OutputStands mid new s' → OutputStands old new s'
-  refused_output s s' k or_other same h = ⊎_elim
-      (λ e. subst (OutputStands old new) (sym e) (same_output s k (subst (OutputStands mid new) e h)))
-      (λ e. subst (OutputStands old new) (sym e) (at_memory (got_before s k (λ f. other s s' e f (same f))) (subst (OutputStands mid new) e h)))
-      or_other
-    where
-      other : (s s' : Status) → s' ≡ Status.OutOfMemory → s ≡ Status.WriteFault Target.Output → s' ≡ s → ⊥
-      other s s' e f g = let h : Status.OutOfMemory ≡ Status.WriteFault Target.Output = sym e ∙ g ∙ f in cc

@@ -1,10 +1,4 @@
-pub mod FirstForm
-pub mod Reading
-pub mod Status
 pub mod Words
-pub mod Texts
-pub mod Axioms
-pub mod Choice
+pub mod Outcomes
 pub mod Run
-pub mod Worked
 pub mod Inside

@@ -1,46 +1,24 @@
 -- What a run answers, and how the files and the output stand after it.
-use Rattle.std.specs.Prelude.{◌≡◌, ◌≢◌, ◌⊎◌, ℕ, ◌-◌, Bool, List, ◌++◌, length, Some, IfSome, codes, decimal, count_by, ⊤}
-use Rattle.io_edge.specs.Outside.{Files, FolderSeen, SinkSeen, WritesRose, PutsRose, HoldsFront, HasGotFront, with_file}
+use Rattle.std.specs.Prelude.{◌≡◌, ◌≢◌, ◌⊎◌, ℕ, List, ◌++◌, Some, IfSome, ⊤}
+use Rattle.text_names.specs.declared.limits.Limits.{Limits}
+use Rattle.text_names.specs.declared.place.Place.{Place}
+use Rattle.io_edge.specs.Outside.{Files, FolderSeen, SinkSeen, ReadsRose, WritesRose, PutsRose, HoldsFront, HasGotFront, with_file}
 use Rattle.io_edge.specs.declared.outside.Role.{Role}
 use Rattle.io_edge.specs.declared.outside.Target.TheVariants as Target
 use Rattle.el_logic.specs.declared.types.Part.{Part}
-use Rattle.repair_run.specs.declared.first_form.DocumentText.{DocumentText}
-use Rattle.repair_run.specs.declared.first_form.TableText.{TableText}
-use Rattle.repair_run.specs.declared.status.Status.{Status}
-use Rattle.repair_run.specs.FirstForm.{repaired_text}
-use Rattle.repair_run.specs.Status.{refusal_line}
-use Rattle.repair_run.specs.Axioms.{axioms_of_both, class_names, AreCoherentTogether, IsFoundIn}
-use Rattle.repair_run.specs.Choice.{IsChosen}
-use Rattle.repair_run.specs.Texts.{AreRead, Texts, IsInputFault, IsUnbuilt}
-use Rattle.repair_run.specs.Words.{FileNames}
-
--- the summary: how many rows there are, are kept, are removed and are inert, and that no axiom was
--- omitted
-abbrev pub summary_text : ℕ → ℕ → ℕ → List ℕ
-summary_text rows kept inert =
-    codes "alod: rows " ++ (decimal rows ++ (codes " kept " ++ (decimal kept
-    ++ (codes " removed " ++ (decimal (rows - kept) ++ (codes " inert " ++ (decimal inert
-    ++ codes " omitted 0\n")))))))
-
-abbrev pub kept_count : List Bool → ℕ
-kept_count keep = count_by (λ k. k) keep
-
--- what is read of the files, and which of the rows are kept
-pub record Outcome (files : Files) (names : FileNames) : Type 0 where
-  pub left : DocumentText
-  pub right : DocumentText
-  pub table : TableText
-  pub read : AreRead files names left right table
-  pub keep : List Bool
-  pub inert : ℕ
-  pub each_row : length keep ≡ length table.rows
-  pub chosen : IsChosen (class_names left right) (axioms_of_both left right) table keep inert
-
-abbrev pub out_text : {files : Files} {names : FileNames} → Outcome files names → List ℕ
-out_text o = repaired_text o.table o.keep
-
-abbrev pub summary_of : {files : Files} {names : FileNames} → Outcome files names → List ℕ
-summary_of o = summary_text (length o.table.rows) (kept_count o.keep) o.inert
+use Rattle.el_logic.specs.declared.types.Side.{Side}
+use Rattle.ofn_heads.specs.declared.outside.HeadId.{HeadId}
+use Rattle.ofn_axiom.specs.declared.types.Mode.TheVariants.{Strict}
+use Rattle.ofn_axiom.specs.declared.fault.DocKind.{DocKind}
+use Rattle.sssom_rows.specs.declared.fault.TableFault.{TableFault}
+use Rattle.case_load.specs.Folders.{IsFirstFileFault}
+use Rattle.case_load.specs.declared.fault.LimitKind.{LimitKind}
+use Rattle.case_load.specs.declared.fault.LoadFault.{LoadFault}
+use Rattle.case_load.specs.declared.fault.LoadFault.TheVariants as load
+use Rattle.status_lines.specs.declared.status.Status.{Status}
+use Rattle.status_lines.specs.Lines.{refusal_line}
+use Rattle.repair_run.specs.Words.{FileNames, name_of}
+use Rattle.repair_run.specs.Outcomes.{Outcome, inputs_named, out_text, summary_of, IsIncoherentCase, IsRepairable}
 
 -- a run as clauses see it: the folder and the output before it, and after it
 pub record Run : Type 0 where
@@ -62,15 +40,11 @@ run_over folder folder_after output output_after =
 abbrev pub IfTold : Run → (Files → Type 0) → Type 0
 IfTold run Holds = IfSome run.folder.files Holds
 
--- the files are of the first form; this is the first part of the documents that leaves a class
--- empty, and the IRI is that of the first such class
-abbrev pub IsIncoherentCase : Files → FileNames → Part → List ℕ → Type 0
-IsIncoherentCase files names part iri = (t : Texts files names) × IsFoundIn t.left t.right part iri
-
--- the files are of the first form, and the documents leave no class empty
-abbrev pub IsRepairable : Run → FileNames → Type 0
-IsRepairable run names =
-    IfTold run (λ files. (t : Texts files names) × AreCoherentTogether t.left t.right)
+-- the first fault of the files: a read that failed or a file that is too long, LEFT before RIGHT
+-- before MAP; then LEFT's, RIGHT's and MAP's text, too many nodes, too many roles
+abbrev pub IsRunFault : Run → FileNames → Limits → LoadFault → Type 0
+IsRunFault run names limits fault =
+    IsFirstFileFault run.folder run.folder_after (inputs_named names) Strict limits fault
 
 -- OUT holds these bytes, and no other file has changed
 abbrev pub HoldsOut : Run → Files → FileNames → List ℕ → Type 0
@@ -81,47 +55,40 @@ abbrev pub HasGot : Run → List ℕ → Type 0
 HasGot run line = IfSome run.output.got (λ got. run.output_after.got ≡ Some (got ++ line))
 
 -- OUT holds the repaired table, no other file has changed, and the output has got the summary
-abbrev pub IsDone : Run → FileNames → Type 0
-IsDone run names = IfTold run (λ files. (o : Outcome files names)
-    × HoldsOut run files names (out_text o) × HasGot run (summary_of o))
-
--- the output has got a summary: this is known also of a folder that tells nothing
-pub record HasGotSummary (run : Run) : Type 0 where
-  pub rows : ℕ
-  pub kept : ℕ
-  pub inert : ℕ
-  pub got : HasGot run (summary_text rows kept inert)
-
--- the output has got the first bytes of the summary
-abbrev pub IsPutShort : Run → FileNames → Type 0
-IsPutShort run names = IfTold run (λ files. (o : Outcome files names)
-    × IfSome run.output.got (λ got. HasGotFront got run.output_after.got (summary_of o)))
+abbrev pub IsDone : Run → FileNames → Limits → Type 0
+IsDone run names limits = (o : Outcome run.folder names limits)
+    × IfTold run (λ files. HoldsOut run files names (out_text o)) × HasGot run (summary_of o)
 
 -- only OUT may have changed, and it holds the whole of the repaired table
-abbrev pub IsWritten : Run → FileNames → Type 0
-IsWritten run names =
-    IfTold run (λ files. (o : Outcome files names) × HoldsOut run files names (out_text o))
+abbrev pub IsWritten : Run → FileNames → Limits → Type 0
+IsWritten run names limits = (o : Outcome run.folder names limits)
+    × IfTold run (λ files. HoldsOut run files names (out_text o))
 
 -- only OUT may have changed, and if so it holds the first bytes of the repaired table
-abbrev pub IsTorn : Run → FileNames → Type 0
-IsTorn run names = IfTold run (λ files. (o : Outcome files names)
-    × ((run.folder_after.files ≡ Some files)
-    ⊎ HoldsFront files run.folder_after.files names.out (out_text o)))
+abbrev pub IsTorn : Run → FileNames → Limits → Type 0
+IsTorn run names limits = (o : Outcome run.folder names limits)
+    × IfTold run (λ files. (run.folder_after.files ≡ Some files)
+    ⊎ HoldsFront files run.folder_after.files names.out (out_text o))
+
+-- the output has got the first bytes of the summary
+abbrev pub IsPutShort : Run → FileNames → Limits → Type 0
+IsPutShort run names limits = (o : Outcome run.folder names limits)
+    × IfSome run.output.got (λ got. HasGotFront got run.output_after.got (summary_of o))
 
 -- no file has changed
 abbrev pub IsUntouched : Run → Type 0
 IsUntouched run = run.folder_after.files ≡ run.folder.files
 
 -- how the files stand after an answer
-abbrev pub FilesStand : Run → FileNames → Status → Type 0
-FilesStand run names Status.Done = IsWritten run names
-FilesStand run names (Status.WriteFault Target.Out) = IsTorn run names
-FilesStand run names (Status.WriteFault Target.Evidence) = ⊥
-FilesStand run names (Status.WriteFault Target.Output) = IsWritten run names
-FilesStand run names Status.OutOfMemory =
-    IsUntouched run ⊎ (IsWritten run names
-    ⊎ (WritesRose run.folder run.folder_after names.out × IsTorn run names))
-FilesStand run names _ = IsUntouched run
+abbrev pub FilesStand : Run → FileNames → Limits → Status → Type 0
+FilesStand run names limits Status.Done = IsWritten run names limits
+FilesStand run names limits (Status.WriteFault Target.Out) = IsTorn run names limits
+FilesStand run names limits (Status.WriteFault Target.Evidence) = ⊥
+FilesStand run names limits (Status.WriteFault Target.Output) = IsWritten run names limits
+FilesStand run names limits Status.OutOfMemory =
+    IsUntouched run ⊎ (IsWritten run names limits
+    ⊎ (WritesRose run.folder run.folder_after names.out × IsTorn run names limits))
+FilesStand run names limits _ = IsUntouched run
 
 -- the whole line was put, or the output failed after its first bytes
 abbrev pub IsLinePut : SinkSeen → SinkSeen → List ℕ → Type 0
@@ -137,6 +104,12 @@ OutputStands old new Status.OutOfMemory =
     IfSome old.got (λ got. HasGotFront got new.got (refusal_line Status.OutOfMemory))
 OutputStands old new s = IsLinePut old new (refusal_line s)
 
+-- no read, no write and no put failed
+pub record HasNoFault (run : Run) (names : FileNames) : Type 0 where
+  pub reads : (file : Role) → ¬ (ReadsRose run.folder run.folder_after (name_of names file))
+  pub write : ¬ (WritesRose run.folder run.folder_after names.out)
+  pub put : ¬ (PutsRose run.output run.output_after)
+
 -- an answer, or that memory ran out in its place
 abbrev pub IsOrMemory : Status → Status → Type 0
 IsOrMemory answer result = (result ≡ answer) ⊎ (result ≡ Status.OutOfMemory)
@@ -148,32 +121,56 @@ IsOrReadStop answer result =
     ⊎ (result ≡ Status.OutOfMemory))
 
 -- all that is known of a run over named files, by its answer
-pub record IsRun (run : Run) (names : FileNames) (answer : Status) : Type 0 where
+pub record IsRun (run : Run) (names : FileNames) (limits : Limits) (answer : Status)
+    : Type 0 where
   -- OUT is the table without exactly the rows that are accused, and the summary was put
-  pub done : answer ≡ Status.Done → IsDone run names
-  pub summary : answer ≡ Status.Done → HasGotSummary run
+  pub done : answer ≡ Status.Done → IsDone run names limits
   -- the arguments are names
   pub words : answer ≢ Status.Words
   -- an input could not be read, after those before it were read
   pub read_fault : (file : Role) → answer ≡ Status.ReadFault file
-      → IsInputFault run.folder run.folder_after names file
-  -- this is the first file that is too long; or none is, and it is the first that is not of the
-  -- first form
-  pub unbuilt : (file : Role) → answer ≡ Status.Unbuilt file
-      → IfTold run (λ files. IsUnbuilt files names file)
-  pub unbuilt_answer : (file : Role)
-      → IfTold run (λ files. IsUnbuilt files names file → IsOrReadStop (Status.Unbuilt file) answer)
+      → IsRunFault run names limits (load.ReadFault file)
+  -- an ontology is no document, and this is the first fault of the files
+  pub syntax : (side : Side) (place : Place) (kind : DocKind)
+      → answer ≡ Status.Syntax side place kind
+      → IsRunFault run names limits (load.Syntax side place kind)
+  pub syntax_answer : (side : Side) (place : Place) (kind : DocKind)
+      → IfTold run (λ files. IsRunFault run names limits (load.Syntax side place kind)
+      → IsOrReadStop (Status.Syntax side place kind) answer)
+  -- an ontology has something outside the profile, and this is the first fault of the files
+  pub profile : (side : Side) (place : Place) (head : HeadId)
+      → answer ≡ Status.Profile side place head
+      → IsRunFault run names limits (load.Profile side place head)
+  pub profile_answer : (side : Side) (place : Place) (head : HeadId)
+      → IfTold run (λ files. IsRunFault run names limits (load.Profile side place head)
+      → IsOrReadStop (Status.Profile side place head) answer)
+  -- the table is no table, and this is the first fault of the files
+  pub table : (fault : TableFault) → answer ≡ Status.Table fault
+      → IsRunFault run names limits (load.Table fault)
+  pub table_answer : (fault : TableFault)
+      → IfTold run (λ files. IsRunFault run names limits (load.Table fault)
+      → IsOrReadStop (Status.Table fault) answer)
+  -- a file or its content is larger than a limit, and this is the first fault of the files
+  pub limit : (kind : LimitKind) → answer ≡ Status.Limit kind
+      → IsRunFault run names limits (load.Limit kind)
+  pub limit_answer : (kind : LimitKind)
+      → IfTold run (λ files. IsRunFault run names limits (load.Limit kind)
+      → IsOrReadStop (Status.Limit kind) answer)
   -- the first part of the documents that leaves a class empty, and the first such class
   pub incoherent : (part : Part) (class : List ℕ) → answer ≡ Status.Incoherent part class
-      → IfTold run (λ files. IsIncoherentCase files names part class)
+      → IsIncoherentCase run.folder names limits part class
   pub incoherent_answer : (part : Part) (class : List ℕ)
-      → IfTold run (λ files. IsIncoherentCase files names part class
+      → IfTold run (λ files. IsIncoherentCase run.folder names limits part class
       → IsOrReadStop (Status.Incoherent part class) answer)
   -- OUT could not be written; the documents leave no class empty
   pub write_fault : answer ≡ Status.WriteFault Target.Out
-      → WritesRose run.folder run.folder_after names.out × IsRepairable run names
+      → WritesRose run.folder run.folder_after names.out × IsRepairable run.folder names limits
   -- the summary could not be put after OUT was written; the documents leave no class empty
   pub output_fault : answer ≡ Status.WriteFault Target.Output
-      → PutsRose run.output run.output_after × IsRepairable run names × IsPutShort run names
+      → PutsRose run.output run.output_after × IsRepairable run.folder names limits
+      × IsPutShort run names limits
+  -- if nothing failed, and the files are read and leave no class empty, the run is done
+  pub complete : IfTold run (λ files. HasNoFault run names
+      → IsRepairable run.folder names limits → IsOrMemory Status.Done answer)
   -- how the files stand
-  pub files : FilesStand run names answer
+  pub files : FilesStand run names limits answer

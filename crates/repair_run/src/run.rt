@@ -1,20 +1,20 @@
 //! One run of the program.
-ghost use Rattle.std.specs.Prelude.{◌≡◌, None, Some, IfErr, IfNone, IfSome, OnOk};
+ghost use Rattle.std.specs.Prelude.{◌≡◌, ◌≤◌, ◌<◌, ◌^◌, None, Some, IfErr, IfNone, IfSome, OnOk};
 ghost use Rattle.io_edge.specs.Outside.{FaultsNeverFall, with_file};
 ghost use Rattle.repair_run.specs.Words.{names_given};
 ghost use Rattle.repair_run.specs.Inside.Named.{named};
-ghost use Rattle.repair_run.specs.Run.{run_over, IfTold, HasGot, HasGotSummary, IsDone, IsRun, IsUntouched, IsOrMemory, FilesStand, OutputStands};
+ghost use Rattle.repair_run.specs.Run.{run_over, IfTold, HasGot, IsDone, IsRun, IsUntouched, IsOrMemory, FilesStand, OutputStands};
 ghost use Rattle.repair_run.specs.Inside.Stops.{IsStop, IsQuiet, IsWriteStop};
 
-use crate::diagnosis::diagnose;
-use crate::load::load;
-use crate::repaired::repaired_text;
-use crate::report::{put_refusal, summary};
-use crate::status::Status;
+use crate::choosing::repaired;
+use crate::loading::loaded;
 use crate::words::{FileNames, file_names_of};
+use case_load::texts_have_one_case_or_first_fault;
+use el_logic::more_axioms_stay_incoherent;
 use io_edge::{Folder, PutAnswer, Sink, Target, WriteAnswer};
+use status_lines::{Status, put_refusal};
 use std::alloc::Global;
-use text_names::Text;
+use text_names::{Limits, Text};
 
 // Writes OUT, and then puts the summary.
 fn write_out<F: Folder, S: Sink>(
@@ -57,38 +57,34 @@ fn write_out<F: Folder, S: Sink>(
 fn run<F: Folder, S: Sink>(
     alloc: Global,
     names: &FileNames<'_>,
+    limits: &Limits,
     folder: &mut F,
     out: &mut S,
 ) -> Result<(), Status>
+    requires bytes { limits.now.file_bytes < 2 ^ 31 }
+    requires depth { limits.now.depth ≤ 256 }
     ensures done { let run = run_over (F.seen folder.old) (F.seen folder.new)
         (S.seen out.old) (S.seen out.new) in
-        OnOk result (IsDone run (named names.now)) }
-    ensures summary { let run = run_over (F.seen folder.old) (F.seen folder.new)
-        (S.seen out.old) (S.seen out.new) in
-        OnOk result (HasGotSummary run) }
+        OnOk result (IsDone run (named names.now) limits.now) }
     ensures stop { let run = run_over (F.seen folder.old) (F.seen folder.new)
         (S.seen out.old) (S.seen out.new) in
-        IfErr result (IsStop run (named names.now)) }
+        IfErr result (IsStop run (named names.now) limits.now) }
     ensures files { let run = run_over (F.seen folder.old) (F.seen folder.new)
         (S.seen out.old) (S.seen out.new) in
-        IfErr result (FilesStand run (named names.now)) }
+        IfErr result (FilesStand run (named names.now) limits.now) }
     ensures quiet { IfErr result (IsQuiet (S.seen out.old) (S.seen out.new)) }
 {
-    let loaded = load(alloc, folder, names)?;
-    let found = match diagnose(alloc, &loaded.left, &loaded.right, &loaded.table) {
-        Ok(found) => found,
+    let loaded = match loaded(alloc, names, limits, folder) {
+        Ok(loaded) => loaded,
         Err(status) => return Err(status),
     };
-    let text = repaired_text(alloc, &loaded.table, found.keep.as_slice())?;
-    let line = summary(alloc, loaded.table.rows.len(), found.kept, found.inert)?;
-    match write_out(
-        alloc,
-        folder,
-        out,
-        names.out,
-        text.as_slice(),
-        line.as_bytes(),
-    ) {
+    let results = match repaired(alloc, &loaded) {
+        Ok(results) => results,
+        Err(status) => return Err(status),
+    };
+    let text = results.text.as_slice();
+    let line = results.line.as_bytes();
+    match write_out(alloc, folder, out, names.out, text, line) {
         Ok(()) => Ok(()),
         Err(status) => Err(status),
     }
@@ -124,9 +120,12 @@ fn refuse<S: Sink>(alloc: Global, out: &mut S, status: Status) -> Status
 pub fn repair<F: Folder, S: Sink>(
     alloc: Global,
     words: &[Text],
+    limits: &Limits,
     folder: &mut F,
     out: &mut S,
 ) -> Status
+    requires bytes { limits.now.file_bytes < 2 ^ 31 }
+    requires depth { limits.now.depth ≤ 256 }
     // The arguments are not four names, of which OUT is none of the others.
     ensures words { result ≡ Status.Words → names_given words.now ≡ None }
     ensures words_answer { names_given words.now ≡ None → IsOrMemory Status.Words result }
@@ -135,17 +134,19 @@ pub fn repair<F: Folder, S: Sink>(
     // `specs/Run.antt`.
     ensures run { let run = run_over (F.seen folder.old) (F.seen folder.new)
         (S.seen out.old) (S.seen out.new) in
-        IfSome (names_given words.now) (λ names. IsRun run names result) }
+        IfSome (names_given words.now) (λ names. IsRun run names limits.now result) }
 
     ensures no_names { let run = run_over (F.seen folder.old) (F.seen folder.new)
         (S.seen out.old) (S.seen out.new) in
         IfNone (names_given words.now) (IsUntouched run) }
     ensures output { OutputStands (S.seen out.old) (S.seen out.new) result }
 {
+    texts_have_one_case_or_first_fault();
+    more_axioms_stay_incoherent();
     let Some(names) = file_names_of(words) else {
         return refuse(alloc, out, Status::Words);
     };
-    match run(alloc, &names, folder, out) {
+    match run(alloc, &names, limits, folder, out) {
         Ok(()) => Status::Done,
         Err(status) => refuse(alloc, out, status),
     }

@@ -1,8 +1,6 @@
-//! Worked derivations and models over cases that are made from texts. The crate holds tests alone.
+//! Worked derivations over cases that are made from texts. The crate holds tests alone.
 #![tactic(auto)]
 
-#[cfg(test)]
-mod models;
 #[cfg(test)]
 mod rows;
 #[cfg(test)]

@@ -1,5 +1,15 @@
-//! Worked cases of whole runs, over files in memory. The crate holds tests alone.
+//! Worked rows: whole runs over files in memory. The crate holds tests alone.
 #![tactic(auto)]
 
 #[cfg(test)]
-mod tests;
+mod faults;
+#[cfg(test)]
+mod limits;
+#[cfg(test)]
+mod refusals;
+#[cfg(test)]
+mod repairs;
+#[cfg(test)]
+mod setting;
+#[cfg(test)]
+mod tables;

@@ -1,26 +1,51 @@
 -- Why a run stops short of being done, and what its steps leave.
 use Rattle.std.specs.Prelude.{◌≡◌, ◌⊎◌, ℕ, List, Some, IfSome, ⊤}
-use Rattle.io_edge.specs.Outside.{SinkSeen, WritesRose, PutsRose, HoldsFront, HasGotFront, with_file}
+use Rattle.text_names.specs.declared.limits.Limits.{Limits}
+use Rattle.io_edge.specs.Outside.{FolderSeen, SinkSeen, WritesRose, PutsRose, HoldsFront, HasGotFront, with_file}
 use Rattle.io_edge.specs.declared.outside.Target.TheVariants as Target
-use Rattle.repair_run.specs.declared.status.Status.{Status}
-use Rattle.repair_run.specs.Texts.{IsInputFault, IsUnbuilt}
+use Rattle.ofn_axiom.specs.declared.types.Mode.TheVariants.{Strict}
+use Rattle.case_load.specs.Folders.{IsFirstFileFault}
+use Rattle.case_load.specs.declared.fault.LoadFault.TheVariants as load
+use Rattle.status_lines.specs.declared.status.Status.{Status}
 use Rattle.repair_run.specs.Words.{FileNames}
-use Rattle.repair_run.specs.Run.{Run, IfTold, IsIncoherentCase, IsRepairable, IsPutShort}
+use Rattle.repair_run.specs.Outcomes.{inputs_named, IsIncoherentCase, IsRepairable}
+use Rattle.repair_run.specs.Run.{Run, IfTold, IsRunFault, IsPutShort}
+
+-- why the files are not loaded
+abbrev pub IsLoadStop : FolderSeen → FolderSeen → FileNames → Limits → Status → Type 0
+IsLoadStop old new names limits (Status.ReadFault file) =
+    IsFirstFileFault old new (inputs_named names) Strict limits (load.ReadFault file)
+IsLoadStop old new names limits (Status.Syntax side place kind) =
+    IsFirstFileFault old new (inputs_named names) Strict limits (load.Syntax side place kind)
+IsLoadStop old new names limits (Status.Profile side place head) =
+    IsFirstFileFault old new (inputs_named names) Strict limits (load.Profile side place head)
+IsLoadStop old new names limits (Status.Table fault) =
+    IsFirstFileFault old new (inputs_named names) Strict limits (load.Table fault)
+IsLoadStop old new names limits (Status.Limit kind) =
+    IsFirstFileFault old new (inputs_named names) Strict limits (load.Limit kind)
+IsLoadStop old new names limits Status.OutOfMemory = ⊤
+IsLoadStop old new names limits _ = ⊥
 
 -- why a run stops
-abbrev pub IsStop : Run → FileNames → Status → Type 0
-IsStop run names (Status.ReadFault file) = IsInputFault run.folder run.folder_after names file
-IsStop run names (Status.Unbuilt file) = IfTold run (λ files. IsUnbuilt files names file)
-IsStop run names (Status.Incoherent part iri) =
-    IfTold run (λ files. IsIncoherentCase files names part iri)
-IsStop run names (Status.WriteFault Target.Out) =
-    WritesRose run.folder run.folder_after names.out × IsRepairable run names
-IsStop run names (Status.WriteFault Target.Output) =
-    PutsRose run.output run.output_after × IsRepairable run names × IsPutShort run names
-IsStop run names (Status.WriteFault Target.Evidence) = ⊥
-IsStop run names Status.OutOfMemory = ⊤
-IsStop run names Status.Done = ⊥
-IsStop run names Status.Words = ⊥
+abbrev pub IsStop : Run → FileNames → Limits → Status → Type 0
+IsStop run names limits (Status.ReadFault file) = IsRunFault run names limits (load.ReadFault file)
+IsStop run names limits (Status.Syntax side place kind) =
+    IsRunFault run names limits (load.Syntax side place kind)
+IsStop run names limits (Status.Profile side place head) =
+    IsRunFault run names limits (load.Profile side place head)
+IsStop run names limits (Status.Table fault) = IsRunFault run names limits (load.Table fault)
+IsStop run names limits (Status.Limit kind) = IsRunFault run names limits (load.Limit kind)
+IsStop run names limits (Status.Incoherent part iri) =
+    IsIncoherentCase run.folder names limits part iri
+IsStop run names limits (Status.WriteFault Target.Out) =
+    WritesRose run.folder run.folder_after names.out × IsRepairable run.folder names limits
+IsStop run names limits (Status.WriteFault Target.Output) =
+    PutsRose run.output run.output_after × IsRepairable run.folder names limits
+    × IsPutShort run names limits
+IsStop run names limits (Status.WriteFault Target.Evidence) = ⊥
+IsStop run names limits Status.OutOfMemory = ⊤
+IsStop run names limits Status.Done = ⊥
+IsStop run names limits Status.Words = ⊥
 
 -- how the output stands before the line of a refusal: nothing was put, but what a fault let through
 -- of the summary

@@ -2,7 +2,11 @@ use Rattle.repair_run.proofs.OutcomeLaws.{same_out, same_summary}
 use Rattle.repair_run.proofs.laws.files_have_one_outcome.Goals as goal
 
 pub returns-clause-out : goal.returns-clause-out
-returns-clause-out c = same_out c.ranking_lists_by_rank.ensures.rank_of_place c.ranking_lists_by_rank.ensures.row_of_rank
+returns-clause-out c =
+    let laws = c.texts_have_one_case_or_first_fault.ensures in
+    same_out (record { never_both = laws.never_both; one_case = laws.one_case; one_fault = laws.one_fault })
 
 pub returns-clause-summary : goal.returns-clause-summary
-returns-clause-summary c = same_summary c.ranking_lists_by_rank.ensures.rank_of_place c.ranking_lists_by_rank.ensures.row_of_rank
+returns-clause-summary c =
+    let laws = c.texts_have_one_case_or_first_fault.ensures in
+    same_summary (record { never_both = laws.never_both; one_case = laws.one_case; one_fault = laws.one_fault })

@@ -1,0 +1,2 @@
+-- What only the code of this crate and its proofs cite.
+pub mod Turns

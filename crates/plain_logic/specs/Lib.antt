@@ -1,9 +1,0 @@
-pub mod Paths
-pub mod Plain
-pub mod Reach
-pub mod Added
-pub mod Theory
-pub mod Crossing
-pub mod Ranks
-pub mod HoldsLaws
-pub mod RankLaws

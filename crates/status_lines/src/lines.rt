@@ -1,0 +1,150 @@
+//! The lines that a run prints.
+
+ghost use Rattle.std.specs.Prelude.{◌≡◌, ◌≤◌, IfOk, string_bytes};
+ghost use Rattle.status_lines.specs.Lines.{limit_text, place_text, refusal_line, summary_text, fault_text};
+
+use crate::Status;
+use crate::kinds::{kind_text, part_text, role_text, side_text};
+use case_load::LimitKind;
+use el_logic::{Part, Side};
+use io_edge::{Role, Target};
+use ofn_axiom::{DocKind, HeadId};
+use sssom_rows::TableFault;
+use std::alloc::{AllocError, Global};
+use text_names::{Place, Text};
+
+/// The line of a run that is done.
+pub fn summary(
+    alloc: Global,
+    rows: usize,
+    kept: usize,
+    inert: u32,
+    omitted: u128,
+) -> Result<String, AllocError>
+    requires { kept ≤ rows }
+    ensures { IfOk result (λ line. string_bytes line ≡ summary_text rows kept inert omitted) }
+{
+    let removed = rows - kept;
+    format!(in alloc;
+        "alod: rows {rows} kept {kept} removed {removed} inert {inert} omitted {omitted}\n"
+    )
+}
+
+fn place_text(alloc: Global, side: Side, place: Place) -> Result<String, AllocError>
+    ensures { IfOk result (λ text. string_bytes text ≡ place_text side place) }
+{
+    let side = side_text(side);
+    let Place { line, column } = place;
+    format!(in alloc; "{side}:{line}:{column}")
+}
+
+pub fn syntax_line(
+    alloc: Global,
+    side: Side,
+    place: Place,
+    kind: DocKind,
+) -> Result<String, AllocError>
+    ensures { IfOk result (λ line.
+        string_bytes line ≡ refusal_line (Status.Syntax side place kind)) }
+{
+    let place = place_text(alloc, side, place)?;
+    let kind = kind_text(kind);
+    format!(in alloc; "alod: {place}: {kind}\n")
+}
+
+fn fault_text(alloc: Global, fault: TableFault) -> Result<String, AllocError>
+    ensures { IfOk result (λ text. string_bytes text ≡ fault_text fault) }
+{
+    match fault {
+        TableFault::MapForm { line } => format!(in alloc; "line {line}: curie_map form"),
+        TableFault::Again { line } => format!(in alloc; "line {line}: prefix again"),
+        TableFault::NoColumns => format!(in alloc; "no columns"),
+        TableFault::NotUtf8 { row } => format!(in alloc; "row {row}: not UTF-8"),
+        TableFault::ColumnMissing { column } => format!(in alloc; "no column {}", column.name()),
+        TableFault::ColumnTwice { column } => format!(in alloc; "column {} twice", column.name()),
+        TableFault::TooManyRows => format!(in alloc; "too many rows"),
+        TableFault::Ragged { row } => format!(in alloc; "row {row}: number of fields"),
+        TableFault::Curie { row, column } => format!(in alloc; "row {row}: {}", column.name()),
+        TableFault::Confidence { row } => format!(in alloc; "row {row}: confidence"),
+        TableFault::OutOfMemory => format!(in alloc; "out of memory"),
+    }
+}
+
+pub fn table_line(alloc: Global, fault: TableFault) -> Result<String, AllocError>
+    ensures { IfOk result (λ line. string_bytes line ≡ refusal_line (Status.Table fault)) }
+{
+    let fault = fault_text(alloc, fault)?;
+    format!(in alloc; "alod: MAP: {fault}\n")
+}
+
+pub fn profile_line(
+    alloc: Global,
+    side: Side,
+    place: Place,
+    head: HeadId,
+) -> Result<Vec<u8>, AllocError>
+    ensures { IfOk result (λ line.
+        line.items ≡ refusal_line (Status.Profile side place head)) }
+{
+    let place = place_text(alloc, side, place)?;
+    let mut line = Vec::from_slice(alloc, b"alod: ")?;
+    line.extend_from_slice(place.as_bytes())?;
+    line.extend_from_slice(b": not in the profile: ")?;
+    line.extend_from_slice(head.name())?;
+    line.extend_from_slice(b"\n")?;
+    Ok(line)
+}
+
+pub fn incoherent_line(alloc: Global, part: Part, class: &Text) -> Result<Vec<u8>, AllocError>
+    ensures { IfOk result (λ line. line.items ≡ refusal_line (Status.Incoherent part class.now)) }
+{
+    let mut line = Vec::from_slice(alloc, b"alod: ")?;
+    line.extend_from_slice(part_text(part).as_bytes())?;
+    line.extend_from_slice(b" incoherent: <")?;
+    line.extend_from_slice(class.bytes())?;
+    line.extend_from_slice(b">\n")?;
+    Ok(line)
+}
+
+fn limit_text(alloc: Global, kind: LimitKind) -> Result<String, AllocError>
+    ensures { IfOk result (λ text. string_bytes text ≡ limit_text kind) }
+{
+    match kind {
+        LimitKind::Bytes(file) => format!(in alloc; "{} bytes", role_text(file)),
+        LimitKind::Depth(side) => format!(in alloc; "{} depth", side_text(side)),
+        LimitKind::Classes(side) => format!(in alloc; "{} classes", side_text(side)),
+        LimitKind::Properties(side) => format!(in alloc; "{} properties", side_text(side)),
+        LimitKind::Rows => format!(in alloc; "rows"),
+        LimitKind::Nodes => format!(in alloc; "nodes"),
+        LimitKind::Roles => format!(in alloc; "roles"),
+    }
+}
+
+pub fn limit_line(alloc: Global, kind: LimitKind) -> Result<String, AllocError>
+    ensures { IfOk result (λ line. string_bytes line ≡ refusal_line (Status.Limit kind)) }
+{
+    let kind = limit_text(alloc, kind)?;
+    format!(in alloc; "alod: limit: {kind}\n")
+}
+
+pub fn cannot_read(file: Role) -> &'static [u8]
+    ensures { result.now ≡ refusal_line (Status.ReadFault file) }
+{
+    match file {
+        Role::Left => b"alod: cannot read LEFT\n",
+        Role::Right => b"alod: cannot read RIGHT\n",
+        Role::Map => b"alod: cannot read MAP\n",
+        Role::Out => b"alod: cannot read OUT\n",
+        Role::Evidence => b"alod: cannot read EVIDENCE\n",
+    }
+}
+
+pub fn cannot_write(target: Target) -> &'static [u8]
+    ensures { result.now ≡ refusal_line (Status.WriteFault target) }
+{
+    match target {
+        Target::Out => b"alod: cannot write OUT\n",
+        Target::Evidence => b"alod: cannot write EVIDENCE\n",
+        Target::Output => b"",
+    }
+}

@@ -1,0 +1,62 @@
+//! Refusals that are put.
+
+ghost use Rattle.std.specs.Prelude.{◌≡◌, ◌≤◌, ℕ, List, IfOk, string_bytes};
+ghost use Rattle.io_edge.specs.Outside.{PutAnswers};
+ghost use Rattle.status_lines.specs.Lines.{refusal_line};
+
+use crate::Status;
+use crate::lines::{
+    cannot_read, cannot_write, incoherent_line, limit_line, profile_line, syntax_line, table_line,
+};
+use io_edge::{PutAnswer, Sink};
+use std::alloc::{AllocError, Global};
+
+// Puts a line that was made, if memory sufficed.
+fn put_made<S: Sink>(alloc: Global, out: &mut S, line: Result<Vec<u8>, AllocError>) -> PutAnswer
+    ensures answer { (bytes : List ℕ) → IfOk line (λ line. line.items ≡ bytes)
+        → PutAnswers (S.seen out.old) (S.seen out.new) bytes result }
+    ensures later { (S.seen out.old).faults ≤ (S.seen out.new).faults }
+{
+    match line {
+        Ok(line) => out.put(alloc, line.as_slice()),
+        Err(_) => PutAnswer::OutOfMemory,
+    }
+}
+
+// The same of a line that is a string.
+fn put_written<S: Sink>(alloc: Global, out: &mut S, line: Result<String, AllocError>) -> PutAnswer
+    ensures answer { (bytes : List ℕ) → IfOk line (λ line. string_bytes line ≡ bytes)
+        → PutAnswers (S.seen out.old) (S.seen out.new) bytes result }
+    ensures later { (S.seen out.old).faults ≤ (S.seen out.new).faults }
+{
+    match line {
+        Ok(line) => out.put(alloc, line.as_bytes()),
+        Err(_) => PutAnswer::OutOfMemory,
+    }
+}
+
+/// Puts the line of a refusal, as one piece. That of `Words`, of a fault of the system, and that
+/// memory ran out, ask for no memory.
+pub fn put_refusal<S: Sink>(alloc: Global, out: &mut S, status: &Status) -> PutAnswer
+    ensures answer { PutAnswers (S.seen out.old) (S.seen out.new) (refusal_line status.now) result }
+    ensures later { (S.seen out.old).faults ≤ (S.seen out.new).faults }
+{
+    match status {
+        Status::Done => out.put(alloc, b""),
+        Status::Words => out.put(alloc, b"alod: usage: alod LEFT RIGHT MAP OUT\n"),
+        Status::Syntax { side, place, kind } => {
+            put_written(alloc, out, syntax_line(alloc, *side, *place, *kind))
+        }
+        Status::Table { fault } => put_written(alloc, out, table_line(alloc, *fault)),
+        Status::Profile { side, place, head } => {
+            put_made(alloc, out, profile_line(alloc, *side, *place, *head))
+        }
+        Status::Incoherent { part, class } => {
+            put_made(alloc, out, incoherent_line(alloc, *part, class))
+        }
+        Status::Limit { kind } => put_written(alloc, out, limit_line(alloc, *kind)),
+        Status::ReadFault { file } => out.put(alloc, cannot_read(*file)),
+        Status::WriteFault { target } => out.put(alloc, cannot_write(*target)),
+        Status::OutOfMemory => out.put(alloc, b"alod: out of memory\n"),
+    }
+}
