@@ -1,0 +1,5 @@
+pub mod Bytes
+pub mod Written
+pub mod Tokens
+pub mod Mentions
+pub mod Documents

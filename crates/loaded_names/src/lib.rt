@@ -1,0 +1,6 @@
+//! What is known of the names of documents, and of what is left out of them, beyond the reading.
+#![tactic(auto)]
+
+mod laws;
+
+pub use laws::{loaded_names_are_iris, strict_runs_leave_nothing_out};

@@ -1,0 +1,8 @@
+pub mod Ranks
+pub mod Taken
+pub mod Marks
+pub mod StepLines
+pub mod Lines
+pub mod Bodies
+pub mod Loops
+pub mod Told
