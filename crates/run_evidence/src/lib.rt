@@ -1,8 +1,10 @@
 //! The evidence of a run: what lets a second program check it.
 #![tactic(auto)]
 
+mod laws;
 mod lists;
 mod rows;
 mod whole;
 
+pub use laws::strict_runs_are_tellable;
 pub use whole::{evidence_against, evidence_of};

@@ -4,6 +4,7 @@ ghost use Rattle.std.specs.Prelude.{◌≡◌, ◌<◌, ◌+◌, ◌^◌, ℕ, A
 ghost use Rattle.std.specs.List.{range_with_len};
 ghost use Rattle.valid_evidence.specs.Rows.{rank_of_row};
 ghost use Rattle.run_evidence.specs.Tellable.{IsEachOnce};
+ghost use Rattle.run_evidence.specs.Inside.DecidedBooks.{IsDecidedBook};
 ghost use Rattle.run_evidence.specs.Inside.RowNumbers.{HasRanksBelow, source_by_row, step_by_row, removed_at};
 
 use case_file::Case;
@@ -63,7 +64,7 @@ pub fn steps_by_row(
 
 /// The removed rows of a book, in ascending order, each with its derivation.
 pub fn removed_rows(alloc: Global, book: &Book) -> Result<RemovedList, AllocError>
-    requires { IsEachOnce book.now.case.order }
+    requires { IsDecidedBook book.now.case book.now.marks book.now.whys }
     ensures { IfOk result (λ removed. removed
         ≡ filter_map (removed_at book.now.case.order book.now.whys)
         (range_with_len 0 (length book.now.case.order))) }
