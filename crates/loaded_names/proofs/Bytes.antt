@@ -20,16 +20,16 @@ all_pass (b ∷ bs) h =
     ap (λ (p : Bool). p && is_iri bs) (All-head Passes b bs h) ∙ all_pass bs (All-tail Passes b bs h)
 
 -- an IRI has bytes that pass
-pub pass_all : (bytes : List ℕ) → is_iri bytes ≡ true → All Passes bytes
-pass_all bytes h = All-from_recursion Passes bytes (each bytes h)
+each_passes : (bytes : List ℕ) → is_iri bytes ≡ true → AllByRecursion Passes bytes
+each_passes [] h = tt
+each_passes (b ∷ bs) h = by (is_iri_byte b) refl h (each_passes bs)
   where
-    each : (bytes : List ℕ) → is_iri bytes ≡ true → AllByRecursion Passes bytes
-    each [] h = tt
-    each (b ∷ bs) h = by (is_iri_byte b) refl h
-      where
-        by : (p : Bool) → is_iri_byte b ≡ p → (p && is_iri bs) ≡ true → Passes b × AllByRecursion Passes bs
-        by true e f = (e, each bs f)
-        by false e f = absurd (true≢false (sym f))
+    by : (p : Bool) → is_iri_byte b ≡ p → (p && is_iri bs) ≡ true → (is_iri bs ≡ true → AllByRecursion Passes bs) → Passes b × AllByRecursion Passes bs
+    by true e f rest = (e, rest f)
+    by false e f rest = absurd (true≢false (sym f))
+
+pub pass_all : (bytes : List ℕ) → is_iri bytes ≡ true → All Passes bytes
+pass_all bytes h = All-from_recursion Passes bytes (each_passes bytes h)
 
 -- of bytes that pass, those that are UTF-8 pass
 pub text_passes : (bytes : List ℕ) → All Passes bytes → All Passes (text_of bytes)
@@ -70,7 +70,7 @@ between_brackets text start end inner some within is =
         omega (arith, size, length-append inner (62 ∷ [])) in
     let inside : start < length text = omega arith in
     let next : drop (start + 1) text ≡ inner ++ 62 ∷ whole.0 =
-        let e = drop-cons start text 0 inside in
+        let e = drop-cons text start 0 inside in
         let f = add-one start in
         let g : get_or text start 0 ∷ drop (suc start) text ≡ 60 ∷ (inner ++ 62 ∷ whole.0) = sym e ∙ whole.1 in
         let h : drop (suc start) text ≡ inner ++ 62 ∷ whole.0 = cc in

@@ -52,8 +52,8 @@ held_pass _ _ _ p old (new_property name ms names more is room rest) =
 -- the IRIs of prefixes that are known from the start
 known_pass : HavePassing known
 known_pass = All-from_recursion (λ both. All Passes both.1) known
-    (pass_all (codes "http://www.w3.org/1999/02/22-rdf-syntax-ns#") refl, pass_all (codes "http://www.w3.org/2000/01/rdf-schema#") refl,
-    pass_all (codes "http://www.w3.org/2001/XMLSchema#") refl, pass_all (codes "http://www.w3.org/2002/07/owl#") refl, tt)
+    (pass_all (codes "http://www.w3.org/1999/02/22-rdf-syntax-ns#") refl, (pass_all (codes "http://www.w3.org/2000/01/rdf-schema#") refl,
+    (pass_all (codes "http://www.w3.org/2001/XMLSchema#") refl, (pass_all (codes "http://www.w3.org/2002/07/owl#") refl, tt))))
 
 module _ (written : Written) (text : List ℕ) where
   prefixes_pass : (old more : Prefixes) (is : List Item) → HavePassing old → AreTokens written text is → ArePrefixes text old is more → HavePassing more
@@ -92,11 +92,11 @@ module _ (written : Written) (text : List ℕ) where
 strict_is_not_el : Strict ≡ ElPart → ⊥
 strict_is_not_el e = cc
 
-with_direct_leaves : (names : Names) (d : Direct) (document : Document) → (with_direct names d document).omitted ≡ document.omitted
-with_direct_leaves names (direct.Axiom a) document = refl
-with_direct_leaves names direct.Nothing document = refl
-with_direct_leaves names (direct.Class iri) document = refl
-with_direct_leaves names (direct.Property iri) document = refl
+with_direct_leaves : (names : Names) (d : Direct) (read : Document) → (with_direct names d read).omitted ≡ read.omitted
+with_direct_leaves names (direct.Axiom a) read = refl
+with_direct_leaves names direct.Nothing read = refl
+with_direct_leaves names (direct.Class iri) read = refl
+with_direct_leaves names (direct.Property iri) read = refl
 
 module _ (text : List ℕ) (prefixes : Prefixes) where
   taken_leaves : (mode : Mode) → mode ≡ Strict → (i : Item) (state next : State) → IsTaken text prefixes mode i state next → next.0.omitted ≡ state.0.omitted
@@ -125,10 +125,10 @@ pub record Cited : Type 0 where
   pub each : (text : List ℕ) (most : ℕ) (items : List Item) → HasItems text most items → All (IsTokenOf text) (tokens_of items)
 
 module _ (cited : Cited) where
-  reading_passes : (text : List ℕ) (mode : Mode) (depth : ℕ) (old new : Names) (d : Document) → NamesPass old → IsReading text mode depth old new d → NamesPass new
-  reading_passes text mode depth old new d pass reading =
-      let is = cited.says text mode depth old new d reading in
-      document_passes cited.written text mode is.items (empty, old) (d, new) (cited.each text depth is.items is.has) pass is.says
+  reading_passes : (text : List ℕ) (mode : Mode) (depth : ℕ) (before after : Names) (d : Document) → NamesPass before → IsReading text mode depth before after d → NamesPass after
+  reading_passes text mode depth before after d pass reading =
+      let is = cited.says text mode depth before after d reading in
+      document_passes cited.written text mode is.items (empty, before) (d, after) (cited.each text depth is.items is.has) pass is.says
 
   -- names that pass are IRIs
   are_iris : (names : List (List ℕ)) → All (All Passes) names → iris.AreIris names

@@ -135,8 +135,8 @@ module _ (written : Written) (text : List ℕ) (prefixes : Prefixes) (held : Hav
   declared_passes _ _ _ p (items.individual iri) = tt
 
   entity_passes : (i : Item) (d : Direct) → Are (i ∷ []) → IsEntity text prefixes i d → MentionsPass (direct_mentions d)
-  entity_passes _ _ are (entity word token start end h iri d at is as) =
-      declared_passes h iri d (iri_passes text prefixes token iri held (atom_token written text token [] (inner_tokens written text word (item.Atom token ∷ []) start end [] are)) is) as
+  entity_passes _ _ are (entity word token start end h iri d at is kind) =
+      declared_passes h iri d (iri_passes text prefixes token iri held (atom_token written text token [] (inner_tokens written text word (item.Atom token ∷ []) start end [] are)) is) kind
 
   declaration_passes : (i : Item) (d : Direct) → Are (i ∷ []) → IsDeclaration text prefixes i d → MentionsPass (direct_mentions d)
   declaration_passes _ _ are (declaration word annotations e start end d at notes of) =

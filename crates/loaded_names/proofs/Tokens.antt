@@ -21,11 +21,11 @@ use Rattle.loaded_names.proofs.Bytes.{Passes, piece_passes, between_brackets}
 
 -- a byte that passes a test is not one that fails it
 fails_it : (test : ℕ → Bool) (b other : ℕ) → test other ≡ false → test b ≡ true → nat_eq b other ≡ false
-fails_it test b other no yes = by (nat_eq b other) refl
+fails_it test b other fails passes = by (nat_eq b other) refl
   where
     by : (same : Bool) → nat_eq b other ≡ same → same ≡ false
     by false e = refl
-    by true e = absurd (true≢false (sym yes ∙ ap test (eqb-true b other e) ∙ no))
+    by true e = absurd (true≢false (sym passes ∙ ap test (eqb-true b other e) ∙ fails))
 
 -- a byte that is none of the four passes
 none_of_these : (b : ℕ) → nat_eq b 60 ≡ false → nat_eq b 62 ≡ false → nat_eq b 32 ≡ false → nat_eq b 10 ≡ false → Passes b

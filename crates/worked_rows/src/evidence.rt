@@ -20,7 +20,7 @@ static CASES: [Case; 4] = [
         "l:A\tskos:broadMatch\towl:Nothing\t\n",
         0,
         "alod evidence 1\ndiagnosis\nomitted 0\nnodes 3\ntop\nbottom\nclass <http://l/A>\nroles 0\n\
-removed 1\nrow 1 steps 2\nsub 2 2 self\nsub 2 1 incl 1 row 1 1\nmodel 1\nclass 2 0\njournal ",
+removed 1\nrow 1 steps 2\nsub 2 2 self\nsub 2 1 incl 1 row 1 1\nmodel 2\nclass 2 1\njournal ",
     ),
     (
         APART,
