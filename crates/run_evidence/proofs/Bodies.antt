@@ -15,7 +15,8 @@ use Rattle.accuse_core.specs.Journal.{replayed, AreReplied}
 use Rattle.accuse_core.specs.Seen.{EntriesSeen}
 use Rattle.case_file.specs.Cases.{CaseView}
 use Rattle.closed_model.specs.Models.{IsModelFor, HasOrderedLists}
-use Rattle.commit_book.specs.Books.{why_at, kept_before, IsWhyOf}
+use Rattle.closed_model.specs.ClosedTables.{TableView}
+use Rattle.commit_book.specs.Books.{BookView, IsBook, why_at, kept_before, IsWhyOf}
 use Rattle.case_load.specs.declared.texts.Loaded.{Loaded}
 use Rattle.repaired_table.specs.Repaired.{repaired_text}
 use Rattle.evidence_lines.specs.Steps.{HasStepLine}
@@ -37,7 +38,7 @@ use Rattle.valid_evidence.specs.Valid.{HasLists, IsValidDiagnosis, IsDiagnosisBo
 use Rattle.run_evidence.specs.Tellable.{IsTellable}
 use Rattle.run_evidence.specs.Inside.RowNumbers.{HasRanksBelow, step_by_row, removed_row}
 use Rattle.run_evidence.proofs.Ranks.{row_again, steps_again}
-use Rattle.run_evidence.proofs.Taken.{why_of, each_removed, removed_ascend}
+use Rattle.run_evidence.proofs.Taken.{removed_of, why_of, each_removed, removed_ascend}
 use Rattle.run_evidence.specs.Inside.DecidedBooks.{IsDecidedBook}
 use Rattle.run_evidence.proofs.Marks.{removed, marks_are, left_are, kept_below, rows_are, mark_is}
 use Rattle.run_evidence.proofs.StepLines.{steps_below, steps_lines}
@@ -185,3 +186,35 @@ module _ (loaded : Loaded) (tellable : IsTellable loaded) (part : Part) (steps :
       whole_text loaded e tellable lists
       (subst (λ (k : Kind). HasBodyText k e.body) (sym of_kind)
       (subst (HasBodyText (kind.Refusal part)) (sym of_body) (steps_lines (case_loaded loaded) part [] no_ranks tellable.few steps good.good)))
+
+-- what is made of a book, and its parts
+module _ (loaded : Loaded) (tellable : IsTellable loaded) (view : BookView) (is_book : IsBook view) (case_is : view.case ≡ case_loaded loaded)
+    (decided : IsDecidedBook (case_loaded loaded) view.marks view.whys) (table : TableView) (table_is : table ≡ view.table)
+    (model : Interp) (of_table : IsModelFor table.case table.ranks model) (journal : EntriesSeen) (entries : List Entry) (copied : journal.entries ≡ entries) (told : entries ≡ view.entries)
+    (rows : List Removed) (found : rows ≡ removed_of view.case.order view.whys (range_with_len 0 (length view.case.order)))
+    (e : Evidence) (of_kind : e.kind ≡ kind.Diagnosis) (of_body : e.body ≡ body.Diagnosis rows model journal) (lists : HasLists loaded e) where
+  own_rows : rows ≡ gone (case_loaded loaded) view.marks view.whys decided
+  own_rows = found ∙ ap (λ (c : CaseView). removed_of c.order view.whys (range_with_len 0 (length c.order))) case_is
+
+  own_model : IsModelFor (case_loaded loaded) (kept_of view.marks) model
+  own_model =
+      subst (λ (c : CaseView). IsModelFor c (kept_of view.marks) model) (ap (λ (t : TableView). t.case) table_is ∙ is_book.table.case_is ∙ case_is)
+      (subst (λ (ranks : List ℕ). IsModelFor table.case ranks model) (ap (λ (t : TableView). t.ranks) table_is ∙ is_book.table.ranks_are) of_table)
+
+  own_entries : journal.entries ≡ view.entries
+  own_entries = copied ∙ told
+
+  own_replied : AreReplied (opening (length (case_loaded loaded).order)) journal.entries
+  own_replied =
+      subst (λ (c : CaseView). AreReplied (opening (length c.order)) journal.entries) case_is
+      (subst (AreReplied (opening (length view.case.order))) (sym own_entries) is_book.journal.replied)
+
+  own_core : view.marks ≡ replayed (length (case_loaded loaded).order) journal.entries
+  own_core = is_book.core ∙ ap (λ (c : CaseView). replayed (length c.order) view.entries) case_is
+      ∙ ap (replayed (length (case_loaded loaded).order)) (sym own_entries)
+
+  pub of_book_valid : IsValidEvidence loaded (repaired_text loaded.table (rows_ranked (case_loaded loaded).order (kept_of view.marks))) e
+  of_book_valid = book_valid loaded tellable view.marks view.whys decided model journal e rows own_rows of_kind of_body lists own_model own_replied own_core
+
+  pub of_book_text : (case_loaded loaded).classes + 2 ≤ 2 ^ 32 → (case_loaded loaded).properties ≤ 2 ^ 32 → HasOrderedLists model → HasText e
+  of_book_text = book_text loaded tellable view.marks view.whys decided model journal e rows own_rows of_kind of_body lists own_model own_replied

@@ -14,6 +14,9 @@ use Rattle.concept_store.specs.Nodes.{IsNode, part_count}
 use Rattle.concept_store.specs.Roles.{AreOver, Numbered, store_of, roles_of, parts_of, parts_in}
 use Rattle.concept_store.specs.Order.{AreInOrder}
 use Rattle.case_file.specs.Cases.{CaseView, IsCase}
+use Rattle.case_load.specs.declared.texts.Loaded.{Loaded}
+use Rattle.valid_evidence.specs.Items.{case_loaded}
+use Rattle.run_evidence.specs.Tellable.{IsTellable}
 use Rattle.run_evidence.specs.Inside.Named.{IsNodeOver, IsRoleOver, AreNodesOver, AreRolesOver}
 
 -- the law that this rests on
@@ -23,14 +26,14 @@ InOrderLaw = (classes roles : ℕ) (left right : List Axiom) → AreOver classes
 
 -- nodes in order, of as many classes as there are names
 nodes_over : (names : List (List ℕ)) (classes properties : ℕ) (nodes : List Node) → classes ≡ length names → AreInOrder classes properties nodes → AreNodesOver names nodes
-nodes_over names classes properties nodes same order = λ k d inside. by (get_or nodes k d) (slice_get-get_or nodes k d inside)
+nodes_over names classes properties nodes same order = λ k d inside. by k (get_or nodes k d) (slice_get-get_or nodes k d inside)
   where
-    by : {k : ℕ} (n : Node) → slice_get nodes k ≡ Some n → IsNodeOver names n
-    by node.Top at = tt
-    by node.Bottom at = tt
-    by {k} (node.Class class) at = let low = order.no_other_name k class at in omega (arith, same, low)
-    by (node.And one other) at = tt
-    by (node.Exists r filler) at = tt
+    by : (k : ℕ) (n : Node) → slice_get nodes k ≡ Some n → IsNodeOver names n
+    by k node.Top at = tt
+    by k node.Bottom at = tt
+    by k (node.Class class) at = let low = order.no_other_name k class at in omega (arith, same, low)
+    by k (node.And one other) at = tt
+    by k (node.Exists r filler) at = tt
 
 -- properties, and parts of chains
 named_over : (names : List (List ℕ)) (start count : ℕ) → start + count ≤ length names → AreRolesOver names (map role.Named (range_with_len start count))
@@ -75,3 +78,17 @@ module _ (law : InOrderLaw) (case : CaseView) (is : IsCase case) where
       by : (classes : ℕ) → ((k : ℕ) → k < classes → IsNode case.store.nodes (k + 2) (node.Class k)) → classes + 2 ≤ 2 ^ 32
       by zero names = omega arith
       by (suc k) names = let low = slice_get_within case.store.nodes (k + 2) (node.Class k) (names k (omega arith)) in omega arith
+
+-- the same of what is loaded
+module _ (law : InOrderLaw) (loaded : Loaded) (tellable : IsTellable loaded) (case : CaseView) (same : case ≡ case_loaded loaded) (is : IsCase case) where
+  own : IsCase (case_loaded loaded)
+  own = subst IsCase same is
+
+  pub held_nodes : AreNodesOver loaded.names.classes.names (case_loaded loaded).store.nodes
+  held_nodes = case_nodes_over law (case_loaded loaded) own loaded.names.classes.names tellable.classes
+
+  pub held_roles : AreRolesOver loaded.names.roles.names (case_loaded loaded).store.roles
+  held_roles = case_roles_over law (case_loaded loaded) own loaded.names.roles.names tellable.properties
+
+  pub held_classes : length case.store.nodes < 2 ^ 32 → (case_loaded loaded).classes + 2 ≤ 2 ^ 32
+  held_classes small = few_classes law (case_loaded loaded) own (subst (λ (c : CaseView). length c.store.nodes < 2 ^ 32) same small)

@@ -4,5 +4,6 @@ pub mod Marks
 pub mod StepLines
 pub mod Lines
 pub mod Bodies
+pub mod Loops
 pub mod Told
 pub mod Held

@@ -92,9 +92,9 @@ module _ (case : CaseView) (marks : List Mark) (whys : List (Option (List Step))
       by : (rank < length case.order) ⊎ (length case.order ≤ rank) → rank < length case.order
       by (inl inside) = inside
       by (inr past) =
-          let open : mark_at marks rank ≡ Open = get_or_past marks rank Open (omega (arith, book.count, past)) in
+          let none : mark_at marks rank ≡ Open = get_or_past marks rank Open (omega (arith, book.count, past)) in
           let kept : mark_at marks rank ≡ Kept = (book.held rank).0 h in
-          let bad : Open ≡ Kept = sym open ∙ kept in cc
+          let bad : Open ≡ Kept = sym none ∙ kept in cc
 
   -- a row has a kept rank if it is not among the removed ones
   ranked_if_left : (index : ℕ) → index < length case.order

@@ -14,11 +14,12 @@ first_rank : (order : List ℕ) (row rank : ℕ) → rank < length order → sli
 first_rank [] row rank inside is none = absurd (omega arith)
 first_rank (x ∷ xs) row zero inside is none =
     ap (λ (b : Bool). cond b zero (suc (rank_of_row xs row))) (eq-eqb (x + 1) row is)
-first_rank (x ∷ xs) row (suc rank) inside is none = by (nat_eq (x + 1) row) refl
+first_rank (x ∷ xs) row (suc rank) inside is none =
+    by (nat_eq (x + 1) row) refl (first_rank xs row rank (omega arith) is (λ other before same. none (suc other) (omega arith) same))
   where
-    by : (b : Bool) → nat_eq (x + 1) row ≡ b → cond b zero (suc (rank_of_row xs row)) ≡ suc rank
-    by true e = absurd (none zero (omega arith) (eqb-true (x + 1) row e))
-    by false e = ap suc (first_rank xs row rank (omega arith) is (λ other before same. none (suc other) (omega arith) same))
+    by : (b : Bool) → nat_eq (x + 1) row ≡ b → rank_of_row xs row ≡ rank → cond b zero (suc (rank_of_row xs row)) ≡ suc rank
+    by true e rest = absurd (none zero (omega arith) (eqb-true (x + 1) row e))
+    by false e rest = ap suc rest
 
 module _ (order : List ℕ) (once : IsEachOnce order) where
   -- the number of the row with a rank leads back to the rank

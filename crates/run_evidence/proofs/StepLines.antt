@@ -1,5 +1,5 @@
 -- The steps of a good derivation have lines, once they name rows by their numbers.
-use Rattle.std.proofs.Common.{◌≡◌, ◌⊎◌, inl, inr, ◌≤◌, ◌<◌, ◌+◌, ℕ, Bool, true, false, List, [], ◌∷◌, ◌++◌, length, map, filter, refl, sym, ap, subst, ◌∙◌, arith, All, Contains, get_or}
+use Rattle.std.proofs.Common.{◌≡◌, ◌⊎◌, inl, inr, ◌≤◌, ◌<◌, ◌+◌, ℕ, zero, suc, Bool, true, false, List, [], ◌∷◌, ◌++◌, length, map, filter, refl, sym, ap, subst, ◌∙◌, arith, All, Contains, get_or}
 use Rattle.std.specs.Prelude.{Some, slice_get, slice_index_or, nat_lt, ⊤}
 use Rattle.std.specs.List.{AllByRecursion}
 use Rattle.std.proofs.lemmas.Bool.{cases_lt}
@@ -25,36 +25,36 @@ use Rattle.run_evidence.specs.Inside.RowNumbers.{HasRanksBelow, source_by_row, s
 
 -- a premise that a rule does not name is 0
 first_line : (r : Rule) (first second : ℕ) (source : Source) → NamesNoMore r first second source → IsPremise (names_first r) first
-first_line rule.Itself first second source no = no.first_is (omega arith)
-first_line rule.Top first second source no = no.first_is (omega arith)
-first_line rule.Refl first second source no = no.first_is (omega arith)
-first_line rule.Incl first second source no = tt
-first_line rule.Left first second source no = tt
-first_line rule.Right first second source no = tt
-first_line rule.Both first second source no = tt
-first_line rule.Out first second source no = tt
-first_line rule.Into first second source no = tt
-first_line rule.Void first second source no = tt
-first_line rule.Role first second source no = tt
-first_line rule.Chain first second source no = tt
-first_line rule.Dom first second source no = tt
-first_line rule.Disj first second source no = tt
+first_line rule.Itself first second source more = more.first_is (omega arith)
+first_line rule.Top first second source more = more.first_is (omega arith)
+first_line rule.Refl first second source more = more.first_is (omega arith)
+first_line rule.Incl first second source more = tt
+first_line rule.Left first second source more = tt
+first_line rule.Right first second source more = tt
+first_line rule.Both first second source more = tt
+first_line rule.Out first second source more = tt
+first_line rule.Into first second source more = tt
+first_line rule.Void first second source more = tt
+first_line rule.Role first second source more = tt
+first_line rule.Chain first second source more = tt
+first_line rule.Dom first second source more = tt
+first_line rule.Disj first second source more = tt
 
 second_line : (r : Rule) (first second : ℕ) (source : Source) → NamesNoMore r first second source → IsPremise (names_second r) second
-second_line rule.Itself first second source no = no.second_is (omega arith)
-second_line rule.Top first second source no = no.second_is (omega arith)
-second_line rule.Refl first second source no = no.second_is (omega arith)
-second_line rule.Incl first second source no = no.second_is (omega arith)
-second_line rule.Left first second source no = no.second_is (omega arith)
-second_line rule.Right first second source no = no.second_is (omega arith)
-second_line rule.Out first second source no = no.second_is (omega arith)
-second_line rule.Role first second source no = no.second_is (omega arith)
-second_line rule.Dom first second source no = no.second_is (omega arith)
-second_line rule.Both first second source no = tt
-second_line rule.Into first second source no = tt
-second_line rule.Void first second source no = tt
-second_line rule.Chain first second source no = tt
-second_line rule.Disj first second source no = tt
+second_line rule.Itself first second source more = more.second_is (omega arith)
+second_line rule.Top first second source more = more.second_is (omega arith)
+second_line rule.Refl first second source more = more.second_is (omega arith)
+second_line rule.Incl first second source more = more.second_is (omega arith)
+second_line rule.Left first second source more = more.second_is (omega arith)
+second_line rule.Right first second source more = more.second_is (omega arith)
+second_line rule.Out first second source more = more.second_is (omega arith)
+second_line rule.Role first second source more = more.second_is (omega arith)
+second_line rule.Dom first second source more = more.second_is (omega arith)
+second_line rule.Both first second source more = tt
+second_line rule.Into first second source more = tt
+second_line rule.Void first second source more = tt
+second_line rule.Chain first second source more = tt
+second_line rule.Disj first second source more = tt
 
 -- the axiom that a rule names, if it names one
 abbrev AxiomIs : (NodeAxiom → Type 0) → Bool → Source → Type 0
@@ -63,26 +63,26 @@ AxiomIs Named false source = source ≡ Source.Nothing
 
 named_by : (nodes : List Node) (Named : NodeAxiom → Type 0) (One Two : Fact → Type 0) (r : Rule) (fact : Fact) (first second : ℕ) (source : Source)
     → Gives nodes Named One Two r fact → NamesNoMore r first second source → AxiomIs Named (names_axiom r) source
-named_by nodes Named One Two rule.Itself fact first second source h no = no.source_is refl
-named_by nodes Named One Two rule.Top fact first second source h no = no.source_is refl
-named_by nodes Named One Two rule.Left fact first second source h no = no.source_is refl
-named_by nodes Named One Two rule.Right fact first second source h no = no.source_is refl
-named_by nodes Named One Two rule.Both fact first second source h no = no.source_is refl
-named_by nodes Named One Two rule.Out fact first second source h no = no.source_is refl
-named_by nodes Named One Two rule.Into fact first second source h no = no.source_is refl
-named_by nodes Named One Two rule.Void fact first second source h no = no.source_is refl
-named_by nodes Named One Two rule.Incl (Sub a d) first second source h no = (h.1, h.2)
-named_by nodes Named One Two rule.Incl (Link a r b) first second source h no = absurd h
-named_by nodes Named One Two rule.Role (Sub a d) first second source h no = absurd h
-named_by nodes Named One Two rule.Role (Link a r b) first second source h no = (h.1, h.2)
-named_by nodes Named One Two rule.Chain (Sub a d) first second source h no = absurd h
-named_by nodes Named One Two rule.Chain (Link a r b) first second source h no = (h.3, h.4)
-named_by nodes Named One Two rule.Refl (Sub a d) first second source h no = absurd h
-named_by nodes Named One Two rule.Refl (Link a r b) first second source h no = (h.0, h.1)
-named_by nodes Named One Two rule.Dom (Sub a d) first second source h no = (h.2, h.3)
-named_by nodes Named One Two rule.Dom (Link a r b) first second source h no = absurd h
-named_by nodes Named One Two rule.Disj (Sub a d) first second source h no = (h.2, h.4)
-named_by nodes Named One Two rule.Disj (Link a r b) first second source h no = absurd h
+named_by nodes Named One Two rule.Itself fact first second source h more = more.source_is refl
+named_by nodes Named One Two rule.Top fact first second source h more = more.source_is refl
+named_by nodes Named One Two rule.Left fact first second source h more = more.source_is refl
+named_by nodes Named One Two rule.Right fact first second source h more = more.source_is refl
+named_by nodes Named One Two rule.Both fact first second source h more = more.source_is refl
+named_by nodes Named One Two rule.Out fact first second source h more = more.source_is refl
+named_by nodes Named One Two rule.Into fact first second source h more = more.source_is refl
+named_by nodes Named One Two rule.Void fact first second source h more = more.source_is refl
+named_by nodes Named One Two rule.Incl (Sub a d) first second source h more = (h.1, h.2)
+named_by nodes Named One Two rule.Incl (Link a r b) first second source h more = absurd h
+named_by nodes Named One Two rule.Role (Sub a d) first second source h more = absurd h
+named_by nodes Named One Two rule.Role (Link a r b) first second source h more = (h.1, h.2)
+named_by nodes Named One Two rule.Chain (Sub a d) first second source h more = absurd h
+named_by nodes Named One Two rule.Chain (Link a r b) first second source h more = (h.3, h.4)
+named_by nodes Named One Two rule.Refl (Sub a d) first second source h more = absurd h
+named_by nodes Named One Two rule.Refl (Link a r b) first second source h more = (h.0, h.1)
+named_by nodes Named One Two rule.Dom (Sub a d) first second source h more = (h.2, h.3)
+named_by nodes Named One Two rule.Dom (Link a r b) first second source h more = absurd h
+named_by nodes Named One Two rule.Disj (Sub a d) first second source h more = (h.2, h.4)
+named_by nodes Named One Two rule.Disj (Link a r b) first second source h more = absurd h
 
 -- an element at its place
 at_place : {X : Type 0} (xs : List X) (k : ℕ) (x : X) → k < length xs → get_or xs k x ≡ x → slice_get xs k ≡ Some x
@@ -129,7 +129,7 @@ module _ (case : CaseView) (part : Part) (ranks : List ℕ) (below : All (λ ran
         by (inr past) = let e = ap length (get_or_past case.over rank [] past) in omega (arith, e)
 
     one_or_two : (number k : ℕ) → number ≡ k + 1 → k < 2 → (number ≡ 1) ⊎ (number ≡ 2)
-    one_or_two number 0 e small = inl e
+    one_or_two number zero e small = inl (omega arith)
     one_or_two number (suc k) e small = inr (omega arith)
 
     source_line : (b : Bool) (source : Source) → AxiomIs (IsNamedBy (theory_of case) part ranks source) b source → IsSource b (source_by_row case.order source)

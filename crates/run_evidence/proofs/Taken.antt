@@ -1,8 +1,9 @@
 -- Which rows are among the removed ones.
-use Rattle.std.proofs.Common.{◌≡◌, ◌≤◌, ◌<◌, ◌+◌, ℕ, zero, suc, Bool, true, false, List, [], ◌∷◌, refl, sym, ap, ◌∙◌, arith, eqb-true, eqb-false, eq-eqb, lt-ltb, All, true≢false}
+use Rattle.std.proofs.Common.{◌≡◌, ◌≤◌, ◌<◌, ◌+◌, ℕ, zero, suc, Bool, true, false, List, [], ◌∷◌, refl, sym, ap, ◌∙◌, arith, eqb-true, eq-eqb, lt-ltb, All, true≢false}
 use Rattle.std.specs.Prelude.{Option, Some, None, is_some, nat_eq, filter_map, ◌&&◌, ◌||◌}
 use Rattle.std.specs.List.{list_any, range_with_len, cons_option}
 use Rattle.std.specs.Option.{option_map}
+use Rattle.std.proofs.lemmas.Bool.{eqb-false}
 use Rattle.std.proofs.lemmas.List.Elements.{All-nil, All-cons}
 use Rattle.derivation.specs.declared.types.Step.{Step}
 use Rattle.evidence_text.specs.declared.types.Removed.{Removed}
@@ -31,14 +32,13 @@ next_differs a b e = by (nat_eq (a + 1) (b + 1)) refl
 in_range : (start count index : ℕ) → start ≤ index → index < start + count
     → list_any (λ i. nat_eq i index) (range_with_len start count) ≡ true
 in_range start zero index low high = absurd (omega arith)
-in_range start (suc count) index low high = by (nat_eq start index) refl
+in_range start (suc count) index low high =
+    by (nat_eq start index) refl (λ (later : start + 1 ≤ index). in_range (start + 1) count index later (omega arith))
   where
-    by : (b : Bool) → nat_eq start index ≡ b → (b || list_any (λ i. nat_eq i index) (range_with_len (start + 1) count)) ≡ true
-    by true e = refl
-    by false e =
-        let differs = eqb-false start index e in
-        let later : start + 1 ≤ index = omega arith in
-        in_range (start + 1) count index later (omega arith)
+    by : (b : Bool) → nat_eq start index ≡ b → (start + 1 ≤ index → list_any (λ i. nat_eq i index) (range_with_len (start + 1) count) ≡ true)
+        → (b || list_any (λ i. nat_eq i index) (range_with_len (start + 1) count)) ≡ true
+    by true e rest = refl
+    by false e rest = let differs = eqb-false start index e in rest (omega arith)
 
 module _ (order : List ℕ) (whys : List (Option (List Step))) where
   -- why the row with this index is removed
@@ -57,21 +57,22 @@ module _ (order : List ℕ) (whys : List (Option (List Step))) where
   taken_in : (index : ℕ) (rows : List ℕ)
       → is_taken_out (removed_of rows) index ≡ (list_any (λ i. nat_eq i index) rows && is_some (why_of index))
   taken_in index [] = refl
-  taken_in index (x ∷ rows) = by (why_of x) refl (nat_eq x index) refl
+  taken_in index (x ∷ rows) = by (why_of x) refl (nat_eq x index) refl (taken_in index rows)
     where
       by : (o : Option (List Step)) → why_of x ≡ o → (b : Bool) → nat_eq x index ≡ b
+          → is_taken_out (removed_of rows) index ≡ (list_any (λ i. nat_eq i index) rows && is_some (why_of index))
           → is_taken_out (with_row x o rows) index ≡ ((b || list_any (λ i. nat_eq i index) rows) && is_some (why_of index))
-      by None none true same =
+      by None none true same rest =
           let no : is_some (why_of index) ≡ false = ap is_some (ap why_of (sym (eqb-true x index same)) ∙ none) in
-          taken_in index rows ∙ ap (λ (b : Bool). list_any (λ i. nat_eq i index) rows && b) no
+          rest ∙ ap (λ (b : Bool). list_any (λ i. nat_eq i index) rows && b) no
           ∙ and_no (list_any (λ i. nat_eq i index) rows) ∙ sym no
-      by None none false differs = taken_in index rows
-      by (Some steps) some true same =
+      by None none false differs rest = rest
+      by (Some steps) some true same rest =
           let yes : is_some (why_of index) ≡ true = ap is_some (ap why_of (sym (eqb-true x index same)) ∙ some) in
           ap (λ (b : Bool). b || is_taken_out (removed_of rows) index) (eq-eqb (x + 1) (index + 1) (ap (λ (i : ℕ). i + 1) (eqb-true x index same)))
           ∙ sym yes
-      by (Some steps) some false differs =
-          ap (λ (b : Bool). b || is_taken_out (removed_of rows) index) (next_differs x index differs) ∙ taken_in index rows
+      by (Some steps) some false differs rest =
+          ap (λ (b : Bool). b || is_taken_out (removed_of rows) index) (next_differs x index differs) ∙ rest
 
   -- a row of the table is among them if it is removed
   pub taken_if_removed : (rows index : ℕ) → index < rows → is_taken_out (removed_of (range_with_len 0 rows)) index ≡ is_some (why_of index)
@@ -84,14 +85,12 @@ module _ (order : List ℕ) (whys : List (Option (List Step))) where
       → ((index : ℕ) → start ≤ index → index < start + count → (steps : List Step) → why_of index ≡ Some steps → P (removed_row order index steps))
       → All P (removed_of (range_with_len start count))
   each_removed P start zero h = All-nil P
-  each_removed P start (suc count) h = by (why_of start) refl
+  each_removed P start (suc count) h =
+      by (why_of start) refl (each_removed P (start + 1) count (λ index low high. h index (omega arith) (omega arith)))
     where
-      rest : All P (removed_of (range_with_len (start + 1) count))
-      rest = each_removed P (start + 1) count (λ index low high. h index (omega arith) (omega arith))
-
-      by : (o : Option (List Step)) → why_of start ≡ o → All P (with_row start o (range_with_len (start + 1) count))
-      by None none = rest
-      by (Some steps) some = All-cons P (removed_row order start steps) (removed_of (range_with_len (start + 1) count)) (h start (omega arith) (omega arith) steps some) rest
+      by : (o : Option (List Step)) → why_of start ≡ o → All P (removed_of (range_with_len (start + 1) count)) → All P (with_row start o (range_with_len (start + 1) count))
+      by None none rest = rest
+      by (Some steps) some rest = All-cons P (removed_row order start steps) (removed_of (range_with_len (start + 1) count)) (h start (omega arith) (omega arith) steps some) rest
 
   -- the row before, if there is one, has no greater number
   abbrev IsNotPast : Option Removed → ℕ → Type 0
@@ -105,7 +104,9 @@ module _ (order : List ℕ) (whys : List (Option (List Step))) where
   -- removed rows ascend
   ascend_from : (before : Option Removed) (start count : ℕ) → IsNotPast before start → InOrder row_before before (removed_of (range_with_len start count))
   ascend_from before start zero h = tt
-  ascend_from before start (suc count) h = by (why_of start)
+  ascend_from before start (suc count) h =
+      by (why_of start) (ascend_from before (start + 1) count (not_past_next before start h))
+      (λ (steps : List Step). ascend_from (Some (removed_row order start steps)) (start + 1) count (omega arith))
     where
       after : (b : Option Removed) (steps : List Step) → IsNotPast b start
           → InOrder row_before (Some (removed_row order start steps)) (removed_of (range_with_len (start + 1) count))
@@ -113,9 +114,11 @@ module _ (order : List ℕ) (whys : List (Option (List Step))) where
       after None steps low rest = rest
       after (Some r) steps low rest = (lt-ltb r.row (start + 1) (omega arith), rest)
 
-      by : (o : Option (List Step)) → InOrder row_before before (with_row start o (range_with_len (start + 1) count))
-      by None = ascend_from before (start + 1) count (not_past_next before start h)
-      by (Some steps) = after before steps h (ascend_from (Some (removed_row order start steps)) (start + 1) count (omega arith))
+      by : (o : Option (List Step)) → InOrder row_before before (removed_of (range_with_len (start + 1) count))
+          → ((steps : List Step) → InOrder row_before (Some (removed_row order start steps)) (removed_of (range_with_len (start + 1) count)))
+          → InOrder row_before before (with_row start o (range_with_len (start + 1) count))
+      by None same next = same
+      by (Some steps) same next = after before steps h (next steps)
 
   pub removed_ascend : (rows : ℕ) → InOrder row_before None (removed_of (range_with_len 0 rows))
   removed_ascend rows = ascend_from None 0 rows tt

@@ -36,7 +36,9 @@ pub fn node_lines(
 {
     let mut lines = Vec::with_capacity(alloc, store.nodes() as usize)?;
     for n in 0..store.nodes() {
-        lines.push(node_line(alloc, classes, store.node(n))?)?;
+        let node = store.node(n);
+        let line = node_line(alloc, classes, node)?;
+        lines.push(line)?;
     }
     Ok(NodeLines::from_vec(lines))
 }
@@ -74,7 +76,9 @@ pub fn role_lines(
 {
     let mut lines = Vec::with_capacity(alloc, store.roles() as usize)?;
     for r in 0..store.roles() {
-        lines.push(role_line(alloc, properties, store.role(r))?)?;
+        let role = store.role(r);
+        let line = role_line(alloc, properties, role)?;
+        lines.push(line)?;
     }
     Ok(RoleLines::from_vec(lines))
 }

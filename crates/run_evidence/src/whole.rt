@@ -2,6 +2,7 @@
 
 ghost use Rattle.std.specs.Prelude.{◌≡◌, ◌+◌, ◌≤◌, ◌^◌, [], length, map, IfOk};
 ghost use Rattle.std.specs.Arc.{arc_value};
+ghost use Rattle.case_file.specs.Cases.{IsCase};
 ghost use Rattle.derivation.specs.Steps.{IsGoodDerivation};
 ghost use Rattle.accuse_core.specs.Marks.{front_of, kept_of};
 ghost use Rattle.commit_book.specs.Books.{ranks_of};
@@ -16,6 +17,7 @@ ghost use Rattle.run_evidence.specs.Inside.DecidedBooks.{IsDecidedBook};
 use crate::lists::{node_lines, omitted_lists, role_lines};
 use crate::rows::{removed_rows, steps_by_row};
 use accuse_core::{Entries, front_is_the_least_undecided_rank, kept_ranks_have_the_mark};
+use case_file::Case;
 use case_load::Loaded;
 use closed_model::model_of;
 use commit_book::Book;
@@ -29,12 +31,23 @@ use std::alloc::{AllocError, Global};
 fn journal_of(alloc: Global, entries: &Entries) -> Result<Entries, AllocError>
     ensures { IfOk result (λ journal. journal.entries ≡ entries.now.entries) }
 {
+    let items = entries.as_slice();
     let mut journal = Entries::new(alloc);
-    journal.reserve(entries.as_slice().len())?;
-    for entry in entries.as_slice() {
+    journal.reserve(items.len())?;
+    for entry in items {
         journal.push(*entry);
     }
     Ok(journal)
+}
+
+// The case, which was built.
+fn case_of(loaded: &Loaded) -> &Case
+    ensures value { result.now ≡ arc_value loaded.now.case }
+    ensures case { IsCase result.now }
+{
+    let case: &Case = &loaded.case;
+    let _store = case.store();
+    case
 }
 
 // The names of the case's nodes and roles are held, and 32 bits count its classes and properties.
@@ -48,8 +61,10 @@ fn names_are_held(loaded: &Loaded)
     ensures properties { (arc_value loaded.now.case).properties ≤ 2 ^ 32 }
 {
     nodes_stand_in_order();
-    let _nodes = loaded.case.store().nodes();
-    let _properties = loaded.case.properties();
+    let case = case_of(loaded);
+    let store = case.store();
+    let _count = store.nodes();
+    let _properties = case.properties();
 }
 
 // Evidence with this body.
@@ -65,9 +80,10 @@ fn evidence_with(
     ensures body { IfOk result (λ e. e.body ≡ body) }
 {
     names_are_held(loaded);
+    let store = case_of(loaded).store();
     let omitted = omitted_lists(alloc, &loaded.omitted)?;
-    let nodes = node_lines(alloc, loaded.case.store(), &loaded.names.classes)?;
-    let roles = role_lines(alloc, loaded.case.store(), &loaded.names.roles)?;
+    let nodes = node_lines(alloc, store, &loaded.names.classes)?;
+    let roles = role_lines(alloc, store, &loaded.names.roles)?;
     Ok(Evidence {
         kind,
         omitted,
@@ -104,15 +120,18 @@ pub fn evidence_of(alloc: Global, loaded: &Loaded, book: &Book) -> Result<Eviden
 {
     names_are_held(loaded);
     book_is_decided(loaded, book);
+    let table = book.table();
+    let entries = book.journal();
     let removed = removed_rows(alloc, book)?;
-    let model = model_of(alloc, book.table())?;
-    let journal = journal_of(alloc, book.journal())?;
+    let model = model_of(alloc, table)?;
+    let journal = journal_of(alloc, entries)?;
     let body = Body::Diagnosis {
         removed,
         model,
         journal,
     };
-    evidence_with(alloc, loaded, Kind::Diagnosis, body)
+    let evidence = evidence_with(alloc, loaded, Kind::Diagnosis, body)?;
+    Ok(evidence)
 }
 
 /// The evidence of a refusal, from a derivation that shows the part of the ontologies incoherent
@@ -128,7 +147,10 @@ pub fn evidence_against(
     ensures valid { IfOk result (IsValidRefusal loaded.now part) }
     ensures text { IfOk result HasText }
 {
-    let steps = steps_by_row(alloc, &loaded.case, steps.as_slice())?;
-    let body = Body::Refusal { steps };
-    evidence_with(alloc, loaded, Kind::Refusal(part), body)
+    let case = case_of(loaded);
+    let list = steps.as_slice();
+    let told = steps_by_row(alloc, case, list)?;
+    let body = Body::Refusal { steps: told };
+    let evidence = evidence_with(alloc, loaded, Kind::Refusal(part), body)?;
+    Ok(evidence)
 }
