@@ -19,7 +19,7 @@ use Rattle.status_lines.specs.declared.status.Status.{Status}
 use Rattle.status_lines.specs.Lines.{status_of}
 use Rattle.repair_run.specs.Words.{FileNames, name_of}
 use Rattle.repair_run.specs.Outcomes.{AreLoaded, AreCoherentTogether, IsIncoherentCase, IsRepairable, case_in, inputs_named, iri_of_class}
-use Rattle.repair_run.specs.Run.{Run, IfTold, IsRunFault, IsDone, IsRun, IsDecided, FilesStand, HasNoFault, IsOrMemory, IsOrReadStop, IsOrEvidenceStop}
+use Rattle.repair_run.specs.Run.{Run, IfTold, IsRunFault, IsDone, IsRun, FilesStand, HasNoFault, IsOrMemory, IsOrReadStop}
 use Rattle.repair_run.specs.Inside.Stops.{IsStop}
 use Rattle.repair_run.proofs.FaultLaws.{OneAnswer, IsNoRead, loaded_or_fault, one_loaded, one_file_fault}
 use Rattle.repair_run.proofs.FoundLaws.{MoreStay, one_part, is_incoherent, one_iri}
@@ -64,11 +64,6 @@ module _ (laws : OneAnswer) (more : MoreStay) (run : Run) (names : FileNames) (l
         let first = subst (λ (c : CaseView). IsFirstIncoherent c.classes c.properties c.left c.right part h.class) same.case h.first in
         coherent (is_incoherent case.classes case.properties more case.left case.right part h.class first)
 
-    -- nor have files whose documents are decided
-    no_decided_fault : (fault : LoadFault) → IsNoRead fault → IsRunFault run names limits fault → IsDecided run.folder names limits → ⊥
-    no_decided_fault fault n f (inl r) = no_fault r.loaded fault r.read n f
-    no_decided_fault fault n f (inr i) = no_fault i.2.loaded fault i.2.read n f
-
     -- where the files have a fault, a run that stops says so, unless a read failed or memory ran out
     fault_stop : (fault : LoadFault) → IsNoRead fault → IsRunFault run names limits fault → (s : Status) → IsStop run names limits s → IsOrReadStop (status_of fault) s
     fault_stop fault n f s h = by s h
@@ -85,26 +80,26 @@ module _ (laws : OneAnswer) (more : MoreStay) (run : Run) (names : FileNames) (l
         by (Status.Incoherent part iri) h = absurd (no_fault h.loaded fault h.read n f)
         by (Status.WriteFault Target.Out) h = absurd (no_fault h.1.loaded fault h.1.read n f)
         by (Status.WriteFault Target.Output) h = absurd (no_fault h.1.loaded fault h.1.read n f)
-        by (Status.WriteFault Target.Evidence) h = absurd (no_decided_fault fault n f h.1)
+        by (Status.WriteFault Target.Evidence) h = absurd h
         by Status.OutOfMemory h = inr (inr refl)
         by Status.Done h = absurd h
         by Status.Words h = absurd h
 
     -- and it names the first empty class if the documents leave a class empty
     incoherent_stop : (part : Part) (iri : List ℕ) → IsIncoherentCase run.folder names limits part iri → (s : Status) → IsStop run names limits s
-        → IsOrEvidenceStop (Status.Incoherent part iri) s
-    incoherent_stop part iri case (Status.ReadFault file) h = inl (inr (inl (file, refl)))
+        → IsOrReadStop (Status.Incoherent part iri) s
+    incoherent_stop part iri case (Status.ReadFault file) h = inr (inl (file, refl))
     incoherent_stop part iri case (Status.Syntax side place kind) h = absurd (no_fault case.loaded (load.Syntax side place kind) case.read tt h)
     incoherent_stop part iri case (Status.Profile side place head) h = absurd (no_fault case.loaded (load.Profile side place head) case.read tt h)
     incoherent_stop part iri case (Status.Table fault) h = absurd (no_fault case.loaded (load.Table fault) case.read tt h)
     incoherent_stop part iri case (Status.Limit kind) h = absurd (no_fault case.loaded (load.Limit kind) case.read tt h)
     incoherent_stop part iri case (Status.Incoherent part' iri') h =
         let same = one_found part' part iri' iri h case in
-        inl (inl (ap {B = Status} (λ (r : Part). Status.Incoherent r iri') same.0 ∙ ap {B = Status} (λ (i : List ℕ). Status.Incoherent part i) same.1))
+        inl (ap {B = Status} (λ (r : Part). Status.Incoherent r iri') same.0 ∙ ap {B = Status} (λ (i : List ℕ). Status.Incoherent part i) same.1)
     incoherent_stop part iri case (Status.WriteFault Target.Out) h = absurd (no_part part iri case h.1.loaded h.1.read h.1.coherent)
     incoherent_stop part iri case (Status.WriteFault Target.Output) h = absurd (no_part part iri case h.1.loaded h.1.read h.1.coherent)
-    incoherent_stop part iri case (Status.WriteFault Target.Evidence) h = inr refl
-    incoherent_stop part iri case Status.OutOfMemory h = inl (inr (inr refl))
+    incoherent_stop part iri case (Status.WriteFault Target.Evidence) h = absurd h
+    incoherent_stop part iri case Status.OutOfMemory h = inr (inr refl)
     incoherent_stop part iri case Status.Done h = absurd h
     incoherent_stop part iri case Status.Words h = absurd h
 
@@ -118,7 +113,7 @@ module _ (laws : OneAnswer) (more : MoreStay) (run : Run) (names : FileNames) (l
     complete_stop none r (Status.Incoherent part iri) h = absurd (no_part part iri h r.loaded r.read r.coherent)
     complete_stop none r (Status.WriteFault Target.Out) h = absurd (none.write h.0)
     complete_stop none r (Status.WriteFault Target.Output) h = absurd (none.put h.0)
-    complete_stop none r (Status.WriteFault Target.Evidence) h = absurd (none.write_evidence h.0)
+    complete_stop none r (Status.WriteFault Target.Evidence) h = absurd h
     complete_stop none r Status.OutOfMemory h = inr refl
     complete_stop none r Status.Done h = absurd h
     complete_stop none r Status.Words h = absurd h
@@ -138,8 +133,7 @@ module _ (laws : OneAnswer) (more : MoreStay) (run : Run) (names : FileNames) (l
     limit = λ kind (same : Status.Done ≡ Status.Limit kind). absurd cc;
     limit_answer = λ kind. no_answer (load.Limit kind) tt;
     incoherent = λ part class (same : Status.Done ≡ Status.Incoherent part class). absurd cc;
-    incoherent_answer = λ part class. told run.folder.files _ (λ files are case. absurd (no_part files are part class case done.0.outcome.loaded done.0.outcome.read done.0.outcome.coherent));
-    evidence_fault = λ (same : Status.Done ≡ Status.WriteFault Target.Evidence). absurd cc;
+    incoherent_answer = λ part class. told run.folder.files _ (λ files are case. absurd (no_part files are part class case done.0.loaded done.0.read done.0.coherent));
     write_fault = λ (same : Status.Done ≡ Status.WriteFault Target.Out). absurd cc;
     output_fault = λ (same : Status.Done ≡ Status.WriteFault Target.Output). absurd cc;
     complete = told run.folder.files _ (λ files are none r. inl refl);
@@ -147,7 +141,7 @@ module _ (laws : OneAnswer) (more : MoreStay) (run : Run) (names : FileNames) (l
   }
     where
       no_answer : (fault : LoadFault) → IsNoRead fault → IfTold run (λ files. IsRunFault run names limits fault → IsOrReadStop (status_of fault) Status.Done)
-      no_answer fault n = told run.folder.files _ (λ files are f. absurd (no_fault files are done.0.outcome.loaded fault done.0.outcome.read n f))
+      no_answer fault n = told run.folder.files _ (λ files are f. absurd (no_fault files are done.0.loaded fault done.0.read n f))
 
   -- a run that stops
   stopped_run : (s : Status) → IsStop run names limits s → FilesStand run names limits s → IsRun run names limits s
@@ -165,7 +159,6 @@ module _ (laws : OneAnswer) (more : MoreStay) (run : Run) (names : FileNames) (l
     limit_answer = λ kind. answers (load.Limit kind) tt;
     incoherent = λ part class same. subst (IsStop run names limits) same stop;
     incoherent_answer = λ part class. told run.folder.files _ (λ f are case. incoherent_stop f are part class case s stop);
-    evidence_fault = λ same. subst (IsStop run names limits) same stop;
     write_fault = λ same. subst (IsStop run names limits) same stop;
     output_fault = λ same. subst (IsStop run names limits) same stop;
     complete = told run.folder.files _ (λ f are none r. complete_stop f are none r s stop);
@@ -177,10 +170,9 @@ module _ (laws : OneAnswer) (more : MoreStay) (run : Run) (names : FileNames) (l
 
   -- how the files stand if memory ran out in place of another answer
   memory_files : (s : Status) → IsStop run names limits s → FilesStand run names limits s → FilesStand run names limits Status.OutOfMemory
-  memory_files (Status.WriteFault Target.Evidence) h f = inr (inr (inr (inl (h.0, f))))
-  memory_files (Status.WriteFault Target.Out) h f = inr (inr (inr (inr (h.0, f))))
-  memory_files (Status.WriteFault Target.Output) h f = inr (inr (inl f))
-  memory_files (Status.Incoherent part class) h f = inr (inl (f.1, inr (part, class, f.0, f.2), f.3))
+  memory_files (Status.WriteFault Target.Out) h f = inr (inr (h.0, f))
+  memory_files (Status.WriteFault Target.Output) h f = inr (inl f)
+  memory_files (Status.WriteFault Target.Evidence) h f = absurd h
   memory_files Status.OutOfMemory h f = f
   memory_files Status.Done h f = absurd h
   memory_files Status.Words h f = absurd h

@@ -21,23 +21,19 @@ use Rattle.diagnosis.specs.declared.rows.KeptRows.{KeptRows}
 use Rattle.diagnosis.specs.Rows.{has_rank_of, keep_of}
 use Rattle.status_lines.specs.Lines.{summary_text}
 use Rattle.repaired_table.specs.Repaired.{repaired_text}
-use Rattle.accuse_core.specs.Marks.{front_of, kept_of}
-use Rattle.commit_book.specs.Books.{BookView, ranks_of}
-use Rattle.run_evidence.specs.Tellable.{IsTellable}
 use Rattle.repair_run.specs.Outcomes.{case_in, iri_of_class, keep_in, kept_count, omitted_count, out_text_of, summary_line, AreIncoherentWith}
-use Rattle.repair_run.specs.Inside.Choices.{IsPlain, IsKept, IsDecidedFor, IsChoice, IsFound}
+use Rattle.repair_run.specs.Inside.Choices.{IsPlain, IsKept, IsChoice, IsFound}
 use Rattle.repair_run.proofs.FamilyLaws.{same_repair}
 use Rattle.repair_run.proofs.StartLaws.{ExcusingNone, coherent_part, first_part}
 
 -- the case of what is loaded is plain
 pub loaded_is_plain : ((confidences rows : List ℕ) → IsRanking confidences rows → length rows ≡ length confidences)
-    → (limits : Limits) (documents : Documents) (table : Table) (loaded : Loaded) → IsCaseOf limits documents table loaded → IsTellable loaded → IsPlain loaded
-loaded_is_plain count limits documents table loaded made tellable = record {
+    → (limits : Limits) (documents : Documents) (table : Table) (loaded : Loaded) → IsCaseOf limits documents table loaded → IsPlain loaded
+loaded_is_plain count limits documents table loaded made = record {
   excused = ap (λ (c : CaseView). c.excused) made.case;
   classes = ap (λ (c : CaseView). c.classes) made.case ∙ ap (λ (n : List (List ℕ)). length n) (sym (ap (λ (n : Names). n.classes.names) made.names));
   rows = ap (λ (c : CaseView). length c.order) made.case ∙ count _ made.order made.ranking ∙ length-map table.rows (λ (row : Row). row.confidence)
       ∙ ap (λ (t : Table). length t.rows) (sym made.same_table);
-  tellable = tellable;
 }
 
 module _ (law : ExcusingNone) (loaded : Loaded) (plain : IsPlain loaded) where
@@ -60,36 +56,32 @@ module _ (law : ExcusingNone) (loaded : Loaded) (plain : IsPlain loaded) where
         (length (case_in loaded).order) ranks repair;
   }
 
-  -- the book in which every rank is decided
-  pub decided_for : (base : CaseView) (book : BookView) → base ≡ case_in loaded → book.case ≡ base → ((part : Part) → ¬ (IsIncoherentFor (case_in loaded) part []))
-      → front_of book.marks ≡ ranks_of base → IsRepair (IsIncoherentFor base Part.Both) (ranks_of base) (kept_of book.marks) → IsDecidedFor loaded book
-  decided_for base book base_is case_is coherent decided repair = record {
-    case = case_is ∙ base_is;
-    decided = decided ∙ ap ranks_of (sym case_is);
-    is_kept = kept (kept_of book.marks) coherent (subst (λ (c : CaseView). IsRepair (IsIncoherentFor c Part.Both) (ranks_of c) (kept_of book.marks)) base_is repair);
-  }
-
 -- the rows of a book of this case
-pub choice : (loaded : Loaded) (ranks : List ℕ) (case : CaseView) (rows : KeptRows) → IsPlain loaded → case ≡ case_in loaded
-    → rows.keep.items ≡ keep_of case.order ranks → rows.kept ≡ kept_count rows.keep.items → rows.kept + rows.removed ≡ length case.order → IsChoice loaded ranks rows
-choice loaded ranks case rows plain same marks count_is all =
-    let order : length case.order ≡ length loaded.table.rows = ap (λ (c : CaseView). length c.order) same ∙ plain.rows in
-    record {
-      keep = marks ∙ ap (λ (c : CaseView). keep_of c.order ranks) same;
-      counted = count_is;
-      within = omega arith;
-      each = ap length marks ∙ length-map (range_with_len 0 (length case.order)) (has_rank_of case.order ranks)
-          ∙ length-range_with_len 0 (length case.order) ∙ order;
-    }
+module _ (law : ExcusingNone) (loaded : Loaded) (plain : IsPlain loaded) (base : CaseView) (ranks : List ℕ) (case : CaseView) (rows : KeptRows) where
+  pub choice : base ≡ case_in loaded → case ≡ base → ((part : Part) → ¬ (IsIncoherentFor (case_in loaded) part []))
+      → IsRepair (IsIncoherentFor base Part.Both) (length base.order) ranks
+      → rows.keep.items ≡ keep_of case.order ranks → rows.kept ≡ kept_count rows.keep.items → rows.kept + rows.removed ≡ length case.order → IsChoice loaded rows
+  choice base_is case_is coherent repair marks count_is all =
+      let same : case ≡ case_in loaded = case_is ∙ base_is in
+      let order : length case.order ≡ length loaded.table.rows = ap (λ (c : CaseView). length c.order) same ∙ plain.rows in
+      record {
+        kept = ranks;
+        is_kept = kept law loaded plain ranks coherent (subst (λ (c : CaseView). IsRepair (IsIncoherentFor c Part.Both) (length c.order) ranks) base_is repair);
+        keep = marks ∙ ap (λ (c : CaseView). keep_of c.order ranks) same;
+        counted = count_is;
+        within = omega arith;
+        each = ap length marks ∙ length-map (range_with_len 0 (length case.order)) (has_rank_of case.order ranks)
+            ∙ length-range_with_len 0 (length case.order) ∙ order;
+      }
 
 -- what is written of a choice
-module _ (loaded : Loaded) (ranks : List ℕ) (rows : KeptRows) (choice : IsChoice loaded ranks rows) where
-  pub written_text : (text : List ℕ) (keep : List Bool) → keep ≡ rows.keep.items → text ≡ repaired_text loaded.table keep → text ≡ out_text_of loaded ranks
+module _ (loaded : Loaded) (rows : KeptRows) (choice : IsChoice loaded rows) where
+  pub written_text : (text : List ℕ) (keep : List Bool) → keep ≡ rows.keep.items → text ≡ repaired_text loaded.table keep → text ≡ out_text_of loaded choice.kept
   written_text text keep same is = is ∙ ap (repaired_text loaded.table) (same ∙ choice.keep)
 
   pub written_line : (line : List ℕ) (count omitted : ℕ) → count ≡ length loaded.table.rows → omitted ≡ omitted_count loaded
-      → line ≡ summary_text count rows.kept loaded.inert omitted → line ≡ summary_line loaded ranks
+      → line ≡ summary_text count rows.kept loaded.inert omitted → line ≡ summary_line loaded choice.kept
   written_line line count omitted counted left is =
       is ∙ ap (λ (n : ℕ). summary_text n rows.kept loaded.inert omitted) counted
       ∙ ap (λ (n : ℕ). summary_text (length loaded.table.rows) n loaded.inert omitted) (choice.counted ∙ ap kept_count choice.keep)
-      ∙ ap (λ (n : ℕ). summary_text (length loaded.table.rows) (kept_count (keep_in loaded ranks)) loaded.inert n) left
+      ∙ ap (λ (n : ℕ). summary_text (length loaded.table.rows) (kept_count (keep_in loaded choice.kept)) loaded.inert n) left

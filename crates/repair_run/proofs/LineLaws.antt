@@ -15,7 +15,7 @@ pub later_stop : (run : Run) (names : FileNames) (limits : Limits) (after : Sink
 later_stop run names limits after (Status.WriteFault Target.Output) same h =
     subst (λ (out : SinkSeen). IsStop (record run { output_after = out }) names limits (Status.WriteFault Target.Output)) (sym (same refl)) h
 later_stop run names limits after (Status.WriteFault Target.Out) same h = h
-later_stop run names limits after (Status.WriteFault Target.Evidence) same h = h
+later_stop run names limits after (Status.WriteFault Target.Evidence) same h = absurd h
 later_stop run names limits after (Status.ReadFault file) same h = h
 later_stop run names limits after (Status.Syntax side place kind) same h = h
 later_stop run names limits after (Status.Profile side place head) same h = h

@@ -1,4 +1,4 @@
--- What LEFT, RIGHT and MAP say, what is kept of MAP, and the evidence of it.
+-- What LEFT, RIGHT and MAP say, and what is kept of MAP.
 use Rattle.std.specs.Prelude.{◌≡◌, ℕ, ◌+◌, Bool, List, ◌++◌, length, slice_get, codes, count_by, Option, Some, None}
 use Rattle.std.specs.Arc.{arc_value}
 use Rattle.text_names.specs.declared.limits.Limits.{Limits}
@@ -17,9 +17,6 @@ use Rattle.case_load.specs.declared.texts.Loaded.{Loaded}
 use Rattle.diagnosis.specs.Rows.{keep_of}
 use Rattle.repaired_table.specs.Repaired.{repaired_text}
 use Rattle.status_lines.specs.Lines.{summary_text}
-use Rattle.evidence_text.specs.declared.types.Evidence.{Evidence}
-use Rattle.evidence_text.specs.EvidenceText.{HasText, evidence_text}
-use Rattle.valid_evidence.specs.Valid.{IsValidEvidence, IsValidRefusal}
 use Rattle.repair_run.specs.Words.{FileNames}
 
 abbrev pub inputs_named : FileNames → Inputs
@@ -78,15 +75,6 @@ out_text o = out_text_of o.loaded o.kept
 abbrev pub summary_of : {folder : FolderSeen} {names : FileNames} {limits : Limits}
     → Outcome folder names limits → List ℕ
 summary_of o = summary_line o.loaded o.kept
-
--- the bytes are the text of valid evidence: of OUT with what is kept, or of a part that is incoherent
-abbrev pub IsEvidence : Loaded → List ℕ → List ℕ → Type 0
-IsEvidence loaded out bytes =
-    (e : Evidence) × IsValidEvidence loaded out e × HasText e × (bytes ≡ evidence_text e)
-
-abbrev pub IsRefusalEvidence : Loaded → Part → List ℕ → Type 0
-IsRefusalEvidence loaded part bytes =
-    (e : Evidence) × IsValidRefusal loaded part e × HasText e × (bytes ≡ evidence_text e)
 
 -- the IRI of a class that must have a member
 abbrev pub iri_of_class : List (List ℕ) → Expr → Option (List ℕ)

@@ -1,57 +1,28 @@
 //! The rows to keep, and what is written of them.
 
-ghost use Rattle.std.specs.Prelude.{◌≡◌, ◌≢◌, ◌<◌, ◌+◌, [], Some, length, IfOk, IfErr};
+ghost use Rattle.std.specs.Prelude.{◌≡◌, ◌≢◌, ◌<◌, ◌+◌, Some, length, IfOk, IfErr};
 ghost use Rattle.byte_words.specs.Faults.{OrOutOfMemory};
 ghost use Rattle.case_file.specs.Incoherence.{name_of};
-ghost use Rattle.derivation.specs.Steps.{IsGoodDerivation};
-ghost use Rattle.accuse_core.specs.Marks.{kept_of};
 ghost use Rattle.saturate.specs.Decisions.{IsStartFault, start_ran_out};
-ghost use Rattle.repair_run.specs.declared.choosing.ChoiceStop.TheVariants.{OutOfMemory};
-ghost use Rattle.repair_run.specs.Outcomes.{case_in, iri_of_class, omitted_count, out_text_of, IsEvidence, IsRefusalEvidence};
-ghost use Rattle.repair_run.specs.Inside.Choices.{IsPlain, IsDecidedFor, IsChoice, IsChoiceStop, AreResultsOf};
+ghost use Rattle.repair_run.specs.Outcomes.{case_in, iri_of_class, omitted_count};
+ghost use Rattle.repair_run.specs.Inside.Choices.{IsPlain, IsChoice, IsChoiceStop, AreResultsOf};
 
 use case_file::excusing_none_is_incoherence;
 use case_load::Loaded;
-use commit_book::Book;
-use derivation::Derivation;
 use diagnosis::{KeptRows, diagnose, kept_rows};
-use el_logic::Part;
-use evidence_text::write_evidence;
 use ofn_axiom::Names;
 use repaired_table::write_table;
-use run_evidence::{evidence_against, evidence_of};
 use saturate::{StartFault, start};
-use status_lines::summary;
-use std::alloc::{AllocError, AllocFailed, Global};
+use status_lines::{Status, summary};
+use std::alloc::{AllocError, Global};
 use std::sync::Arc;
 use text_names::{Bytes, Text};
 
-/// What is written: EVIDENCE, the text of OUT, and the summary.
+/// What is written: the text of OUT, and the summary.
 #[derive(Drop)]
 pub struct Results {
-    pub evidence: Bytes,
     pub text: Bytes,
     pub line: String,
-}
-
-/// Why no rows are chosen.
-#[derive(Drop)]
-pub enum ChoiceStop {
-    /// A part of the ontologies leaves a class empty: its IRI, and the evidence.
-    Incoherent {
-        part: Part,
-        class: Text,
-        evidence: Bytes,
-    },
-    OutOfMemory,
-}
-
-impl From<AllocError> for ChoiceStop {
-    ghost from_gives = { λ _ stop. stop ≡ OutOfMemory };
-
-    fn from(_error: AllocError) -> ChoiceStop {
-        ChoiceStop::OutOfMemory
-    }
 }
 
 // The IRI of a class that must have a member, by its node.
@@ -67,53 +38,26 @@ fn class_iri(alloc: Global, names: &Names, node: u32) -> Result<Text, AllocError
     names.classes.at(node - 2).copy(alloc)
 }
 
-// The text of the evidence that a part is incoherent.
-fn refusal_text(
-    alloc: Global,
-    loaded: &Loaded,
-    part: Part,
-    steps: &Derivation,
-) -> Result<Bytes, AllocError>
-    requires plain { IsPlain loaded.now }
-    requires good { IsGoodDerivation (case_in loaded.now) part [] steps.now }
-    ensures { IfOk result (IsRefusalEvidence loaded.now part) }
-{
-    let evidence = evidence_against(alloc, loaded, part, steps)?;
-    write_evidence(alloc, &evidence)
-}
-
-// Why no rows are chosen if the ontologies leave a class empty.
-fn refusal(alloc: Global, loaded: &Loaded, fault: StartFault) -> ChoiceStop
+// The answer if the ontologies leave a class empty.
+fn refusal(alloc: Global, loaded: &Loaded, fault: StartFault) -> Status
     requires plain { IsPlain loaded.now }
     requires fault { OrOutOfMemory start_ran_out (IsStartFault (case_in loaded.now)) fault }
     ensures { IsChoiceStop loaded.now result }
 {
     excusing_none_is_incoherence();
-    let StartFault::Incoherent {
-        part,
-        class,
-        derivation,
-    } = fault
-    else {
-        return ChoiceStop::OutOfMemory;
-    };
-    let Ok(evidence) = refusal_text(alloc, loaded, part, &derivation) else {
-        return ChoiceStop::OutOfMemory;
+    let StartFault::Incoherent { part, class, .. } = fault else {
+        return Status::OutOfMemory;
     };
     match class_iri(alloc, &loaded.names, class) {
-        Ok(class) => ChoiceStop::Incoherent {
-            part,
-            class,
-            evidence,
-        },
-        Err(_) => ChoiceStop::OutOfMemory,
+        Ok(class) => Status::Incoherent { part, class },
+        Err(_) => Status::OutOfMemory,
     }
 }
 
-// The book in which every rank is decided, if the ontologies leave no class empty.
-fn decided(alloc: Global, loaded: &Loaded) -> Result<Book, ChoiceStop>
+// Which rows are kept, if the ontologies leave no class empty.
+fn chosen(alloc: Global, loaded: &Loaded) -> Result<KeptRows, Status>
     requires { IsPlain loaded.now }
-    ensures ok { IfOk result (IsDecidedFor loaded.now) }
+    ensures ok { IfOk result (IsChoice loaded.now) }
     ensures err { IfErr result (IsChoiceStop loaded.now) }
 {
     excusing_none_is_incoherence();
@@ -122,27 +66,7 @@ fn decided(alloc: Global, loaded: &Loaded) -> Result<Book, ChoiceStop>
         Err(fault) => return Err(refusal(alloc, loaded, fault)),
     };
     let book = diagnose(alloc, Arc::try_clone(&loaded.case)?, base)?;
-    Ok(book)
-}
-
-// The text of the evidence for what is kept.
-fn kept_text(alloc: Global, loaded: &Loaded, book: &Book) -> Result<Bytes, AllocError>
-    requires plain { IsPlain loaded.now }
-    requires book { IsDecidedFor loaded.now book.now }
-    ensures { IfOk result
-        (IsEvidence loaded.now (out_text_of loaded.now (kept_of book.now.marks))) }
-{
-    let evidence = evidence_of(alloc, loaded, book)?;
-    write_evidence(alloc, &evidence)
-}
-
-// Which rows are kept.
-fn chosen(alloc: Global, loaded: &Loaded, book: &Book) -> Result<KeptRows, AllocError>
-    requires plain { IsPlain loaded.now }
-    requires book { IsDecidedFor loaded.now book.now }
-    ensures { IfOk result (IsChoice loaded.now (kept_of book.now.marks)) }
-{
-    kept_rows(alloc, book)
+    Ok(kept_rows(alloc, &book)?)
 }
 
 // How many axioms were left out of both ontologies.
@@ -154,37 +78,19 @@ fn omitted_count(loaded: &Loaded) -> u128
     left + right
 }
 
-// EVIDENCE, the text of OUT and the summary of a book.
-fn results_of(alloc: Global, loaded: &Loaded, book: &Book) -> Result<Results, AllocError>
-    requires plain { IsPlain loaded.now }
-    requires book { IsDecidedFor loaded.now book.now }
-    ensures { IfOk result (AreResultsOf loaded.now) }
-{
-    let evidence = kept_text(alloc, loaded, book)?;
-    let rows = chosen(alloc, loaded, book)?;
-    let text = write_table(alloc, &loaded.table, rows.keep.as_slice())?;
-    let count = loaded.table.rows.as_slice().len();
-    let omitted = omitted_count(loaded);
-    let line = summary(alloc, count, rows.kept, loaded.inert, omitted)?;
-    Ok(Results {
-        evidence,
-        text,
-        line,
-    })
-}
-
-/// EVIDENCE, the text of OUT and the summary, if the ontologies leave no class empty.
-pub fn repaired(alloc: Global, loaded: &Loaded) -> Result<Results, ChoiceStop>
+/// The text of OUT and the summary, if the ontologies leave no class empty.
+pub fn repaired(alloc: Global, loaded: &Loaded) -> Result<Results, Status>
     requires { IsPlain loaded.now }
     ensures ok { IfOk result (AreResultsOf loaded.now) }
     ensures err { IfErr result (IsChoiceStop loaded.now) }
 {
-    let book = match decided(alloc, loaded) {
-        Ok(book) => book,
-        Err(stop) => return Err(stop),
+    let rows = match chosen(alloc, loaded) {
+        Ok(rows) => rows,
+        Err(status) => return Err(status),
     };
-    match results_of(alloc, loaded, &book) {
-        Ok(results) => Ok(results),
-        Err(_) => Err(ChoiceStop::OutOfMemory),
-    }
+    let text = write_table(alloc, &loaded.table, rows.keep.as_slice())?;
+    let count = loaded.table.rows.as_slice().len();
+    let omitted = omitted_count(loaded);
+    let line = summary(alloc, count, rows.kept, loaded.inert, omitted)?;
+    Ok(Results { text, line })
 }

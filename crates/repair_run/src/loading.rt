@@ -12,7 +12,6 @@ use case_load::{Loaded, load};
 use io_edge::Folder;
 use ofn_axiom::Mode;
 use rank_order::ranking_has_each_row_once;
-use run_evidence::strict_runs_are_tellable;
 use status_lines::{Status, status_of};
 use std::alloc::Global;
 use text_names::Limits;
@@ -37,10 +36,7 @@ pub fn loaded<F: Folder>(
     ranking_has_each_row_once();
     let (left, right, map) = (names.left, names.right, names.map);
     match load(alloc, folder, left, right, map, Mode::Strict, limits) {
-        Ok(loaded) => {
-            strict_runs_are_tellable(&loaded);
-            Ok(loaded)
-        }
+        Ok(loaded) => Ok(loaded),
         Err(fault) => Err(status_of(fault)),
     }
 }

@@ -1,44 +1,20 @@
 //! One run of the program.
-ghost use Rattle.std.specs.Prelude.{◌≡◌, ◌≤◌, ◌<◌, ◌^◌, None, Some, IfErr, IfNone, IfSome, OnOk, string_bytes};
+ghost use Rattle.std.specs.Prelude.{◌≡◌, ◌≤◌, ◌<◌, ◌^◌, None, Some, IfErr, IfNone, IfSome, OnOk};
 ghost use Rattle.io_edge.specs.Outside.{FaultsNeverFall, with_file};
 ghost use Rattle.repair_run.specs.Words.{names_given};
 ghost use Rattle.repair_run.specs.Inside.Named.{named};
 ghost use Rattle.repair_run.specs.Run.{run_over, IfTold, HasGot, IsDone, IsRun, IsUntouched, IsOrMemory, FilesStand, OutputStands};
-ghost use Rattle.repair_run.specs.Inside.Choices.{IsChoiceStop};
-ghost use Rattle.repair_run.specs.Inside.Stops.{IsStop, IsQuiet, IsEvidenceStop, IsWriteStop, IsRefused, IsResultStop, AreWritten, written_of};
+ghost use Rattle.repair_run.specs.Inside.Stops.{IsStop, IsQuiet, IsWriteStop};
 
-use crate::choosing::{ChoiceStop, Results, repaired};
+use crate::choosing::repaired;
 use crate::loading::loaded;
 use crate::words::{FileNames, file_names_of};
-use case_load::{Loaded, texts_have_one_case_or_first_fault};
+use case_load::texts_have_one_case_or_first_fault;
 use el_logic::more_axioms_stay_incoherent;
 use io_edge::{Folder, PutAnswer, Sink, Target, WriteAnswer};
 use status_lines::{Status, put_refusal};
 use std::alloc::Global;
 use text_names::{Limits, Text};
-
-// Writes EVIDENCE.
-fn put_evidence<F: Folder>(
-    alloc: Global,
-    folder: &mut F,
-    name: &Text,
-    evidence: &[u8],
-) -> Result<(), Status>
-    ensures later { FaultsNeverFall (F.seen folder.old) (F.seen folder.new) }
-    ensures files { OnOk result (IfSome (F.seen folder.old).files
-        (λ files. (F.seen folder.new).files ≡ Some (with_file files name.now evidence.now))) }
-    ensures err { IfErr result
-        (IsEvidenceStop (F.seen folder.old) (F.seen folder.new) name.now evidence.now) }
-{
-    match folder.write(alloc, name, evidence) {
-        WriteAnswer::Done => Ok(()),
-        WriteAnswer::Failed => {
-            let target = Target::Evidence;
-            Err(Status::WriteFault { target })
-        }
-        WriteAnswer::OutOfMemory => Err(Status::OutOfMemory),
-    }
-}
 
 // Writes OUT, and then puts the summary.
 fn write_out<F: Folder, S: Sink>(
@@ -77,62 +53,6 @@ fn write_out<F: Folder, S: Sink>(
     }
 }
 
-// Writes EVIDENCE, then OUT, and then puts the summary.
-fn write_results<F: Folder, S: Sink>(
-    alloc: Global,
-    folder: &mut F,
-    out: &mut S,
-    names: &FileNames<'_>,
-    results: &Results,
-) -> Result<(), Status>
-    ensures files { let run = run_over (F.seen folder.old) (F.seen folder.new)
-        (S.seen out.old) (S.seen out.new) in
-        OnOk result (AreWritten run (named names.now) (written_of results.now)) }
-    ensures got { let run = run_over (F.seen folder.old) (F.seen folder.new)
-        (S.seen out.old) (S.seen out.new) in
-        OnOk result (HasGot run (string_bytes results.now.line)) }
-    ensures err { let run = run_over (F.seen folder.old) (F.seen folder.new)
-        (S.seen out.old) (S.seen out.new) in
-        IfErr result (IsResultStop run (named names.now) (written_of results.now)) }
-{
-    match put_evidence(alloc, folder, names.evidence, results.evidence.as_slice()) {
-        Ok(()) => {}
-        Err(status) => return Err(status),
-    }
-    let text = results.text.as_slice();
-    let line = results.line.as_bytes();
-    match write_out(alloc, folder, out, names.out, text, line) {
-        Ok(()) => Ok(()),
-        Err(status) => Err(status),
-    }
-}
-
-// Writes the evidence of a refusal.
-fn refused<F: Folder>(
-    alloc: Global,
-    loaded: &Loaded,
-    folder: &mut F,
-    name: &Text,
-    stop: ChoiceStop,
-) -> Status
-    requires { IsChoiceStop loaded.now stop }
-    ensures { IsRefused (F.seen folder.old) (F.seen folder.new) loaded.now name.now result }
-{
-    let _ = loaded;
-    let ChoiceStop::Incoherent {
-        part,
-        class,
-        evidence,
-    } = stop
-    else {
-        return Status::OutOfMemory;
-    };
-    match put_evidence(alloc, folder, name, evidence.as_slice()) {
-        Ok(()) => Status::Incoherent { part, class },
-        Err(status) => status,
-    }
-}
-
 // The run over named files, before the line of a refusal.
 fn run<F: Folder, S: Sink>(
     alloc: Global,
@@ -160,9 +80,11 @@ fn run<F: Folder, S: Sink>(
     };
     let results = match repaired(alloc, &loaded) {
         Ok(results) => results,
-        Err(stop) => return Err(refused(alloc, &loaded, folder, names.evidence, stop)),
+        Err(status) => return Err(status),
     };
-    match write_results(alloc, folder, out, names, &results) {
+    let text = results.text.as_slice();
+    let line = results.line.as_bytes();
+    match write_out(alloc, folder, out, names.out, text, line) {
         Ok(()) => Ok(()),
         Err(status) => Err(status),
     }
@@ -189,9 +111,8 @@ fn refuse<S: Sink>(alloc: Global, out: &mut S, status: Status) -> Status
 }
 
 /// Repairs a mapping table between two ontologies: reads LEFT, RIGHT and MAP, and writes to OUT the
-/// table without the rows that are accused of leaving a class without any possible member, after
-/// EVIDENCE, by which another program can check this. The words are those five names. If the
-/// ontologies are incoherent without the table, EVIDENCE shows it, and OUT isn't written.
+/// table without the rows that are accused of leaving a class without any possible member. The
+/// words are those four names.
 ///
 /// Each refusal has a line of its own on the output, which is put as one piece; a run that is done
 /// puts its summary. A fault of the output while the line of a refusal is put changes neither the
@@ -205,7 +126,7 @@ pub fn repair<F: Folder, S: Sink>(
 ) -> Status
     requires bytes { limits.now.file_bytes < 2 ^ 31 }
     requires depth { limits.now.depth ≤ 256 }
-    // The arguments are not five names, of which OUT and EVIDENCE are none of the others.
+    // The arguments are not four names, of which OUT is none of the others.
     ensures words { result ≡ Status.Words → names_given words.now ≡ None }
     ensures words_answer { names_given words.now ≡ None → IsOrMemory Status.Words result }
 

@@ -94,7 +94,7 @@ place_text side place =
 -- output no line
 abbrev pub refusal_line : Status → List ℕ
 refusal_line Status.Done = []
-refusal_line Status.Words = codes "alod: usage: alod LEFT RIGHT MAP OUT EVIDENCE\n"
+refusal_line Status.Words = codes "alod: usage: alod LEFT RIGHT MAP OUT\n"
 refusal_line (Status.Syntax side place kind) =
     codes "alod: " ++ (place_text side place ++ (codes ": " ++ (kind_text kind ++ codes "\n")))
 refusal_line (Status.Table fault) = codes "alod: MAP: " ++ (fault_text fault ++ codes "\n")

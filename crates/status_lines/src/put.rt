@@ -43,7 +43,7 @@ pub fn put_refusal<S: Sink>(alloc: Global, out: &mut S, status: &Status) -> PutA
 {
     match status {
         Status::Done => out.put(alloc, b""),
-        Status::Words => out.put(alloc, b"alod: usage: alod LEFT RIGHT MAP OUT EVIDENCE\n"),
+        Status::Words => out.put(alloc, b"alod: usage: alod LEFT RIGHT MAP OUT\n"),
         Status::Syntax { side, place, kind } => {
             put_written(alloc, out, syntax_line(alloc, *side, *place, *kind))
         }

@@ -14,9 +14,9 @@ use text_names::{Place, Text};
 /// What a run answers, each with the exit status of the program.
 #[derive(Debug, Drop)]
 pub enum Status {
-    /// EVIDENCE holds the evidence, OUT the repaired table, and the summary is printed.
+    /// OUT holds the repaired table, and the summary is printed.
     Done,
-    /// The words do not name five files, of which OUT and EVIDENCE are none of the others.
+    /// The words do not name four files, of which OUT is none of the others.
     Words,
     /// The ontology is no document.
     Syntax {
@@ -37,7 +37,7 @@ pub enum Status {
     },
     /// The ontologies leave a class without a member even without the table: the first such part,
     /// and in it the IRI of the first such class in order of appearance. There is nothing to repair
-    /// in the table; EVIDENCE holds the evidence of this.
+    /// in the table.
     Incoherent {
         part: Part,
         class: Text,

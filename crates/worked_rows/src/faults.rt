@@ -6,7 +6,7 @@ use std::alloc::Global;
 use std::test::Fail;
 use text_names::Limits;
 
-const NAMES: [&str; 5] = ["LEFT", "RIGHT", "MAP", "OUT", "EVIDENCE"];
+const NAMES: [&str; 4] = ["LEFT", "RIGHT", "MAP", "OUT"];
 
 // The files of the first worked case.
 fn worked(alloc: Global) -> Result<MemFolder, Fail> {
@@ -17,18 +17,16 @@ fn worked(alloc: Global) -> Result<MemFolder, Fail> {
 #[test]
 fn refuses_wrong_words(rt: HostRuntime) -> Result<(), Fail> {
     let alloc = rt.alloc();
-    let cases: [&[&str]; 9] = [
+    let cases: [&[&str]; 7] = [
         &[],
-        &["LEFT", "RIGHT", "MAP", "OUT"],
-        &["LEFT", "RIGHT", "MAP", "OUT", "EVIDENCE", "MORE"],
-        &["LEFT", "RIGHT", "", "OUT", "EVIDENCE"],
-        &["-h", "RIGHT", "MAP", "OUT", "EVIDENCE"],
-        &["LEFT", "RIGHT", "MAP", "OUT", "-"],
-        &["LEFT", "RIGHT", "MAP", "MAP", "EVIDENCE"],
-        &["LEFT", "RIGHT", "MAP", "OUT", "LEFT"],
-        &["LEFT", "RIGHT", "MAP", "OUT", "OUT"],
+        &["LEFT", "RIGHT", "MAP"],
+        &["LEFT", "RIGHT", "MAP", "OUT", "MORE"],
+        &["LEFT", "RIGHT", "", "OUT"],
+        &["-h", "RIGHT", "MAP", "OUT"],
+        &["LEFT", "RIGHT", "MAP", "-"],
+        &["LEFT", "RIGHT", "MAP", "MAP"],
     ];
-    let usage = b"alod: usage: alod LEFT RIGHT MAP OUT EVIDENCE\n".as_slice();
+    let usage = b"alod: usage: alod LEFT RIGHT MAP OUT\n".as_slice();
     for words in cases {
         let mut folder = worked(alloc)?;
         let mut sink = MemSink::new(alloc);
@@ -36,7 +34,7 @@ fn refuses_wrong_words(rt: HostRuntime) -> Result<(), Fail> {
         let ran = run_over(alloc, words, &limits, &mut folder, &mut sink)?;
         assert!(rt; ran.number == 2);
         assert!(rt; ran.line.as_slice() == usage);
-        assert!(rt; ran.out.is_empty() && ran.evidence.is_empty());
+        assert!(rt; ran.out.is_empty());
     }
     Ok(())
 }
@@ -48,9 +46,8 @@ fn tells_of_failing_calls(rt: HostRuntime) -> Result<(), Fail> {
         (1, 7, "alod: cannot read LEFT\n"),
         (2, 7, "alod: cannot read RIGHT\n"),
         (3, 7, "alod: cannot read MAP\n"),
-        (4, 8, "alod: cannot write EVIDENCE\n"),
-        (5, 8, "alod: cannot write OUT\n"),
-        (6, 0, TWO_OF_THREE),
+        (4, 8, "alod: cannot write OUT\n"),
+        (5, 0, TWO_OF_THREE),
     ];
     for (call, number, line) in cases {
         let mut folder = worked(alloc)?;
@@ -61,7 +58,6 @@ fn tells_of_failing_calls(rt: HostRuntime) -> Result<(), Fail> {
         assert!(rt; ran.number == number, "{call}");
         assert!(rt; ran.line.as_slice() == line.as_bytes(), "{call}");
         assert!(rt; ran.out.is_empty() == (number != 0), "{call}");
-        assert!(rt; ran.evidence.ends_with(b"\nend\n") == (call > 4), "{call}");
     }
     Ok(())
 }
@@ -91,7 +87,6 @@ fn writes_before_it_tells(rt: HostRuntime) -> Result<(), Fail> {
     assert!(rt; ran.number == 8);
     assert!(rt; ran.line.is_empty());
     assert!(rt; ran.out.as_slice() == wanted.as_bytes());
-    assert!(rt; ran.evidence.ends_with(b"\nend\n"));
     Ok(())
 }
 

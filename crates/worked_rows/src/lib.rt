@@ -2,8 +2,6 @@
 #![tactic(auto)]
 
 #[cfg(test)]
-mod evidence;
-#[cfg(test)]
 mod faults;
 #[cfg(test)]
 mod limits;

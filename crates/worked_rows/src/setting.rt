@@ -30,18 +30,10 @@ pub struct Ran {
     pub line: Vec<u8>,
     /// What OUT holds, if there is such a file.
     pub out: Vec<u8>,
-    /// What EVIDENCE holds, if there is such a file.
-    pub evidence: Vec<u8>,
 }
 
 fn text(alloc: Global, name: &str) -> Result<Text, Fail> {
     Ok(Text::of(alloc, name.as_bytes())?)
-}
-
-// What a file holds, if it is there.
-fn held(alloc: Global, folder: &MemFolder, name: &str) -> Result<Vec<u8>, Fail> {
-    let bytes = folder.file(&text(alloc, name)?).unwrap_or(b"");
-    Ok(Vec::from_slice(alloc, bytes)?)
 }
 
 /// Runs over a folder and an output.
@@ -61,14 +53,8 @@ pub fn run_over(
     }
     let number = repair(alloc, names.as_slice(), limits, folder, sink).number();
     let line = Vec::from_slice(alloc, sink.bytes())?;
-    let out = held(alloc, folder, "OUT")?;
-    let evidence = held(alloc, folder, "EVIDENCE")?;
-    Ok(Ran {
-        number,
-        line,
-        out,
-        evidence,
-    })
+    let out = Vec::from_slice(alloc, folder.file(&text(alloc, "OUT")?).unwrap_or(b""))?;
+    Ok(Ran { number, line, out })
 }
 
 /// The files of a run.
@@ -90,7 +76,7 @@ pub fn run_within(
 ) -> Result<Ran, Fail> {
     let mut folder = files(alloc, left, right, map)?;
     let mut sink = MemSink::new(alloc);
-    let words = ["LEFT", "RIGHT", "MAP", "OUT", "EVIDENCE"];
+    let words = ["LEFT", "RIGHT", "MAP", "OUT"];
     run_over(alloc, &words, limits, &mut folder, &mut sink)
 }
 

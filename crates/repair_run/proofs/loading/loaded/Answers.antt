@@ -5,4 +5,3 @@ pub returns-in-Ok-clause-plain : goal.returns-in-Ok-clause-plain
 returns-in-Ok-clause-plain g c =
     let from = c.in-Ok.ensures.loaded.from_texts in
     loaded_is_plain c.ranking_has_each_row_once.ensures.count c.args.limits.now from.documents from.table c.in-Ok.loaded from.made
-    (c.strict_runs_are_tellable.ensures (c.in-Ok.ensures.loaded.texts) c.args.limits.now from)
