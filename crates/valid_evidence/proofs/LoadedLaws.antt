@@ -1,7 +1,5 @@
 -- What valid evidence of a loaded case shows.
-use Rattle.std.proofs.Common.{◌≡◌, ℕ, ◌<◌, List, [], All, Contains, length, refl, ap, sym, subst, ◌∙◌, arith, get_or}
-use Rattle.std.specs.Prelude.{◌↔◌}
-use Rattle.std.specs.Arc.{arc_value}
+use Rattle.std.proofs.Common.{◌≡◌, ℕ, ◌<◌, List, [], Contains, length, ap, sym, subst, ◌∙◌, arith, get_or}
 use Rattle.std.proofs.lemmas.List.{length-map, append-nil}
 use Rattle.std.proofs.lemmas.List.Elements.{All-nil}
 use Rattle.text_names.specs.declared.limits.Limits.{Limits}

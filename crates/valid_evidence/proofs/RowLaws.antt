@@ -1,7 +1,7 @@
 -- Removed rows by their ranks.
-use Rattle.std.proofs.Common.{◌≡◌, ℕ, suc, ◌+◌, ◌<◌, Bool, true, false, cond, List, [], ◌∷◌, ◌++◌, map, Contains, length, get_or, refl, ap, sym, subst, ◌∙◌, arith, inl, inr, ⊎_elim, true≢false}
-use Rattle.std.specs.Prelude.{◌↔◌, ◌==◌, not, nat_lt}
-use Rattle.std.specs.List.{list_any, range_with_len, filter}
+use Rattle.std.proofs.Common.{◌≡◌, ℕ, suc, ◌+◌, ◌<◌, Bool, true, false, List, [], ◌∷◌, map, Contains, length, get_or, refl, ap, sym, subst, ◌∙◌, arith, ⊎_elim}
+use Rattle.std.specs.Prelude.{◌↔◌, ◌==◌, not}
+use Rattle.std.specs.List.{list_any, range_with_len}
 use Rattle.std.proofs.lemmas.Bool.{cond-true, cond-false, cases_Bool, cases_lt, eqb-true, eq-eqb, not-true}
 use Rattle.std.proofs.lemmas.List.{get_or-map, get_or_past, get_or_default, length-map}
 use Rattle.std.proofs.lemmas.List.FromFn.{length-range_with_len, get_or-range_with_len}
@@ -10,7 +10,7 @@ use Rattle.accuse_core.specs.declared.mark.Mark.{Mark}
 use Rattle.accuse_core.specs.declared.mark.Mark.TheVariants as M
 use Rattle.accuse_core.specs.Marks.{mark_at, kept_of}
 use Rattle.evidence_text.specs.declared.types.Removed.{Removed}
-use Rattle.valid_evidence.specs.Rows.{is_taken_out, rows_left, decided_mark, decided_marks, ranks_left, rank_of_row}
+use Rattle.valid_evidence.specs.Rows.{is_taken_out, rows_left, decided_mark, decided_marks, ranks_left}
 use Rattle.valid_evidence.specs.Shown.{rows_ranked}
 
 -- the kept ranks are those with the mark

@@ -1,6 +1,6 @@
 -- What valid evidence shows.
-use Rattle.std.proofs.Common.{◌≡◌, ℕ, true, ◌+◌, ◌<◌, List, [], ◌∷◌, ◌++◌, All, Contains, length, get_or, refl, ap, sym, subst, ◌∙◌, arith}
-use Rattle.std.specs.Prelude.{◌↔◌, ◌≤◌, nat_lt}
+use Rattle.std.proofs.Common.{◌≡◌, ℕ, true, ◌<◌, List, [], All, Contains, length, get_or, ap, subst, ◌∙◌}
+use Rattle.std.specs.Prelude.{◌↔◌, nat_lt}
 use Rattle.std.specs.List.{filter}
 use Rattle.std.proofs.lemmas.Bool.{ltb-true}
 use Rattle.std.proofs.lemmas.List.Elements.{All-contains, All-contains_itself, All-filter, All-push, All-weaker, filter_passes}
