@@ -1,10 +1,10 @@
 -- Bytes between two offsets of a text.
-use Rattle.std.proofs.Common.{◌≡◌, ◌≤◌, ◌<◌, ℕ, suc, ◌+◌, ◌-◌, Bool, true, false, cond, List, [], ◌∷◌, ◌++◌, length, take, drop, All, true≢false, refl, sym, ap, subst, ◌∙◌, arith, length-append, append_assoc, add-one, length-drop, get_or, drop-cons}
+use Rattle.std.proofs.Common.{◌≡◌, ◌≤◌, ◌<◌, ℕ, suc, ◌+◌, ◌-◌, Bool, true, false, cond, List, [], ◌∷◌, ◌++◌, length, take, drop, All, true≢false, refl, sym, ap, ◌∙◌, arith, length-append, append_assoc, add-one, length-drop, get_or, drop-cons}
 use Rattle.std.specs.Prelude.{slice_range, nat_le, ◌&&◌}
 use Rattle.std.specs.Str.{is_utf8}
 use Rattle.std.specs.List.{AllByRecursion}
 use Rattle.std.proofs.lemmas.List.{length-take-le, take-append-drop}
-use Rattle.std.proofs.lemmas.List.Elements.{All-nil, All-take, All-drop, All-from_recursion, All-head, All-tail}
+use Rattle.std.proofs.lemmas.List.Elements.{All-nil, All-from_recursion, All-head, All-tail}
 use Rattle.std.proofs.Math.Seq.{take-append_seam}
 use Rattle.ofn_heads.specs.Names.{text_of, piece}
 use Rattle.evidence_lines.specs.Names.{is_iri_byte, is_iri}
@@ -55,7 +55,7 @@ between_ends : (count : ℕ) (bytes inner : List ℕ) (first last : ℕ) → cou
 between_ends count bytes inner first last within is = (
   drop count bytes,
   sym (take-append-drop count bytes) ∙ ap (λ (l : List ℕ). l ++ drop count bytes) is
-  ∙ ap (λ (l : List ℕ). first ∷ l) (append_assoc inner (last ∷ []) (drop count bytes)),
+      ∙ ap (λ (l : List ℕ). first ∷ l) (append_assoc inner (last ∷ []) (drop count bytes)),
 )
 
 -- what is between the brackets of a full IRI
@@ -66,15 +66,15 @@ between_brackets text start end inner some within is =
     let short : end - start ≤ length (drop start text) = omega arith in
     let whole = between_ends (end - start) (drop start text) inner 60 62 short is in
     let count : end - start ≡ length inner + 2 =
-        let size = sym (length-take-le (end - start) (drop start text) short) ∙ ap length is in
-        omega (arith, size, length-append inner (62 ∷ [])) in
+    let size = sym (length-take-le (end - start) (drop start text) short) ∙ ap length is in
+    omega (arith, size, length-append inner (62 ∷ [])) in
     let inside : start < length text = omega arith in
     let next : drop (start + 1) text ≡ inner ++ 62 ∷ whole.0 =
-        let e = drop-cons text start 0 inside in
-        let f = add-one start in
-        let g : get_or text start 0 ∷ drop (suc start) text ≡ 60 ∷ (inner ++ 62 ∷ whole.0) = sym e ∙ whole.1 in
-        let h : drop (suc start) text ≡ inner ++ 62 ∷ whole.0 = cc in
-        ap (λ (n : ℕ). drop n text) f ∙ h in
+    let e = drop-cons text start 0 inside in
+    let f = add-one start in
+    let g : get_or text start 0 ∷ drop (suc start) text ≡ 60 ∷ (inner ++ 62 ∷ whole.0) = sym e ∙ whole.1 in
+    let h : drop (suc start) text ≡ inner ++ 62 ∷ whole.0 = cc in
+    ap (λ (n : ℕ). drop n text) f ∙ h in
     let less : end - 1 - (start + 1) ≡ length inner = omega arith in
     ap (λ (n : ℕ). take n (drop (start + 1) text)) less ∙ ap (take (length inner)) next
     ∙ take-append_seam inner (62 ∷ whole.0)

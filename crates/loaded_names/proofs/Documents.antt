@@ -1,11 +1,9 @@
 -- The names that a document holds, and what it leaves out.
-use Rattle.std.proofs.Common.{◌≡◌, ℕ, Bool, true, false, List, [], ◌∷◌, ◌++◌, All, refl, sym, ap, subst, ◌∙◌}
-use Rattle.std.specs.Prelude.{Some, ⊤, codes}
-use Rattle.std.specs.List.{AllByRecursion}
+use Rattle.std.proofs.Common.{◌≡◌, ℕ, List, [], ◌∷◌, ◌++◌, All, refl, sym, subst, ◌∙◌}
+use Rattle.std.specs.Prelude.{codes}
 use Rattle.std.proofs.lemmas.List.Elements.{All-nil, All-head, All-tail, All-push, All-from_recursion}
 use Rattle.byte_words.specs.Fronts.{without_mark}
 use Rattle.text_names.specs.declared.limits.Limits.{Limits}
-use Rattle.text_names.specs.Names.{Numbering}
 use Rattle.text_names.specs.Prefixes.{Prefixes}
 use Rattle.ofn_lex.specs.Texts.{IsTokenOf}
 use Rattle.ofn_term.specs.declared.item.Item.{Item}
@@ -17,14 +15,13 @@ use Rattle.ofn_axiom.specs.declared.types.Direct.{Direct}
 use Rattle.ofn_axiom.specs.declared.types.Direct.TheVariants as direct
 use Rattle.ofn_axiom.specs.declared.types.Document.{Document}
 use Rattle.ofn_axiom.specs.declared.types.Mention.{Mention}
-use Rattle.ofn_axiom.specs.declared.types.Mention.TheVariants as mention
 use Rattle.ofn_axiom.specs.declared.types.Names.{Names}
 use Rattle.ofn_axiom.specs.declared.types.Mode.{Mode}
 use Rattle.ofn_axiom.specs.declared.types.Mode.TheVariants.{Strict, ElPart}
 use Rattle.ofn_axiom.specs.Numbers.{direct_mentions}
 use Rattle.ofn_axiom.specs.Taking.{State, with_direct}
 use Rattle.ofn_axiom.specs.Documents.{empty, IsReading}
-use Rattle.ofn_axiom.specs.DocumentText.{IsPrefix, equated, ArePrefixes, none, new, again, AreHeld, no_more, held_class, new_class, held_property, new_property, IsTaken, said, omitted, AreTaken, all_taken, one_taken, AreIris, IsOntology, ontology, IsDocument, document, IsDocumentText}
+use Rattle.ofn_axiom.specs.DocumentText.{IsPrefix, equated, ArePrefixes, none, new, again, AreHeld, no_more, held_class, new_class, held_property, new_property, IsTaken, said, omitted, AreTaken, all_taken, one_taken, IsOntology, ontology, IsDocument, document, IsDocumentText}
 use Rattle.case_load.specs.Loads.{Inputs, IsLoaded}
 use Rattle.case_load.specs.declared.texts.Loaded.{Loaded}
 use Rattle.loaded_names.specs.Iris as iris
@@ -51,9 +48,13 @@ held_pass _ _ _ p old (new_property name ms names more is room rest) =
 
 -- the IRIs of prefixes that are known from the start
 known_pass : HavePassing known
-known_pass = All-from_recursion (λ both. All Passes both.1) known
-    (pass_all (codes "http://www.w3.org/1999/02/22-rdf-syntax-ns#") refl, (pass_all (codes "http://www.w3.org/2000/01/rdf-schema#") refl,
-    (pass_all (codes "http://www.w3.org/2001/XMLSchema#") refl, (pass_all (codes "http://www.w3.org/2002/07/owl#") refl, tt))))
+known_pass = All-from_recursion (λ both. All Passes both.1) known (
+  pass_all (codes "http://www.w3.org/1999/02/22-rdf-syntax-ns#") refl,
+  (
+    pass_all (codes "http://www.w3.org/2000/01/rdf-schema#") refl,
+    (pass_all (codes "http://www.w3.org/2001/XMLSchema#") refl, (pass_all (codes "http://www.w3.org/2002/07/owl#") refl, tt)),
+  ),
+)
 
 module _ (written : Written) (text : List ℕ) where
   prefixes_pass : (old more : Prefixes) (is : List Item) → HavePassing old → AreTokens written text is → ArePrefixes text old is more → HavePassing more
@@ -144,7 +145,7 @@ module _ (cited : Cited) where
       record { classes = are_iris loaded.names.classes.names pass.classes; roles = are_iris loaded.names.roles.names pass.roles }
 
 pub strict_left : ((text : List ℕ) (mode : Mode) (depth : ℕ) (old new : Names) (document : Document)
-      → IsReading text mode depth old new document → IsDocumentText text mode depth old new document)
+    → IsReading text mode depth old new document → IsDocumentText text mode depth old new document)
     → (texts : Inputs) (limits : Limits) (loaded : Loaded) → IsLoaded texts Strict limits loaded → (loaded.omitted.left ≡ []) × (loaded.omitted.right ≡ [])
 strict_left says texts limits loaded is =
     let read = is.read.documents_read in

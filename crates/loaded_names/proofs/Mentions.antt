@@ -1,11 +1,9 @@
 -- The names that items mention, whose tokens have their forms.
-use Rattle.std.proofs.Common.{◌≡◌, ℕ, List, [], ◌∷◌, ◌++◌, All, refl, sym, ap, subst, ◌∙◌}
-use Rattle.std.specs.Prelude.{Some, ⊤}
-use Rattle.ofn_lex.specs.declared.token.Token.{Token}
+use Rattle.std.proofs.Common.{◌≡◌, ℕ, List, [], ◌∷◌, ◌++◌, All, sym, ap, subst, ◌∙◌}
+use Rattle.std.specs.Prelude.{⊤}
 use Rattle.ofn_term.specs.declared.item.Item.{Item}
 use Rattle.ofn_term.specs.declared.item.Item.TheVariants as item
 use Rattle.ofn_heads.specs.declared.head.Head.{Head}
-use Rattle.ofn_heads.specs.declared.head.Head.TheVariants as head
 use Rattle.text_names.specs.Prefixes.{Prefixes}
 use Rattle.ofn_axiom.specs.declared.types.IriExpr.{IriExpr, fold-IriExpr}
 use Rattle.ofn_axiom.specs.declared.types.IriExpr.TheOpen.{IriExpr-F}
@@ -13,14 +11,11 @@ use Rattle.ofn_axiom.specs.declared.types.IriExpr.TheFolds.{fold-roll-IriExpr}
 use Rattle.ofn_axiom.specs.declared.types.IriExpr.TheVariants as expr
 use Rattle.ofn_axiom.specs.declared.types.IriExpr.TheVariants.{rolls-Top, rolls-Bottom, rolls-Class, rolls-And, rolls-Exists}
 use Rattle.ofn_axiom.specs.declared.types.IriAxiom.{IriAxiom}
-use Rattle.ofn_axiom.specs.declared.types.IriAxiom.TheVariants as ax
 use Rattle.ofn_axiom.specs.declared.types.Direct.{Direct}
-use Rattle.ofn_axiom.specs.declared.types.Direct.TheVariants as direct
 use Rattle.ofn_axiom.specs.declared.types.Mention.{Mention}
 use Rattle.ofn_axiom.specs.declared.types.Mention.TheVariants as mention
 use Rattle.ofn_axiom.specs.Numbers.{mentions, mention_step, all_mentions, properties, axiom_mentions, direct_mentions}
-use Rattle.ofn_axiom.specs.StandsFor as stands
-use Rattle.ofn_axiom.specs.StandsFor.{IsIri, IsProperty, property, AreProperties, IsClass, top, bottom, class, intersection, restriction, AreClasses, none, one_more, IsChain, single, chained, IsAxiomOf, sub_class, equivalent, disjoint, sub_property, equivalent_properties, transitive, reflexive, domain, IsAxiom, stated}
+use Rattle.ofn_axiom.specs.StandsFor.{IsProperty, property, AreProperties, IsClass, top, bottom, class, intersection, restriction, AreClasses, none, one_more, IsChain, single, chained, IsAxiomOf, sub_class, equivalent, disjoint, sub_property, equivalent_properties, transitive, reflexive, domain, IsAxiom, stated}
 use Rattle.ofn_axiom.specs.DirectItems as items
 use Rattle.ofn_axiom.specs.DirectItems.{IsDeclaredAs, IsEntity, entity, IsDeclaration, declaration, IsDirect, note, declares, states}
 use Rattle.loaded_names.proofs.Bytes.{Passes}

@@ -1,11 +1,10 @@
 -- What tokens stand for: the bytes of an IRI.
-use Rattle.std.proofs.Common.{◌≡◌, ◌≤◌, ◌<◌, ℕ, ◌+◌, ◌-◌, Bool, true, false, cond, List, [], ◌∷◌, ◌++◌, length, All, refl, sym, ap, subst, ◌∙◌, arith, true≢false, eqb-true}
+use Rattle.std.proofs.Common.{◌≡◌, ◌≤◌, ◌<◌, ℕ, ◌+◌, ◌-◌, Bool, true, false, cond, List, [], length, All, refl, sym, ap, subst, ◌∙◌, arith, true≢false, eqb-true}
 use Rattle.std.specs.Prelude.{Option, Some, IfSome, slice_range, nat_eq, nat_le, nat_lt}
 use Rattle.std.specs.List.{AllByRecursion, position_or_len}
 use Rattle.std.proofs.lemmas.Bool.Decides.{nat_tests}
 use Rattle.std.proofs.lemmas.List.Elements.{All-nil, All-append, All-drop, All-from_recursion, All-weaker}
 use Rattle.std.proofs.lemmas.Map.Entries.{All-lookup}
-use Rattle.byte_words.specs.Bytes.{is_one_of}
 use Rattle.ofn_lex.specs.Bytes as lex
 use Rattle.ofn_lex.specs.Forms.{HasForm}
 use Rattle.ofn_lex.specs.Texts.{IsTokenOf}
@@ -13,10 +12,9 @@ use Rattle.ofn_lex.specs.Texts as lexed
 use Rattle.ofn_lex.specs.declared.token.Token.{Token}
 use Rattle.ofn_lex.specs.declared.token.TokenKind.{TokenKind}
 use Rattle.ofn_lex.specs.declared.token.TokenKind.TheVariants as kind
-use Rattle.ofn_heads.specs.Names.{piece, iri_between, spelling, known}
+use Rattle.ofn_heads.specs.Names.{piece, iri_between, spelling}
 use Rattle.text_names.specs.Prefixes.{Prefixes, is_colon, rest_of, iri_of}
 use Rattle.ofn_axiom.specs.StandsFor.{IsIri, full, short}
-use Rattle.evidence_lines.specs.Names.{is_iri_byte}
 use Rattle.loaded_names.proofs.Bytes.{Passes, piece_passes, between_brackets}
 
 -- a byte that passes a test is not one that fails it

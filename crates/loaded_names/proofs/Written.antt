@@ -1,13 +1,13 @@
 -- Tokens of items, one after another and within groups.
-use Rattle.std.proofs.Common.{◌≡◌, ℕ, List, [], ◌∷◌, ◌++◌, map, All, sym, ap, subst, ◌∙◌, refl}
-use Rattle.std.specs.Prelude.{Option, Some, None}
+use Rattle.std.proofs.Common.{◌≡◌, ℕ, List, [], ◌∷◌, ◌++◌, map, All, sym, subst}
+use Rattle.std.specs.Prelude.{Option, Some}
 use Rattle.std.proofs.lemmas.List.{map-append, append-nil}
 use Rattle.std.proofs.lemmas.List.Elements.{All-nil, All-cons, All-head, All-tail, All-append}
 use Rattle.ofn_lex.specs.declared.token.Token.{Token}
 use Rattle.ofn_lex.specs.Texts.{IsTokenOf}
 use Rattle.ofn_term.specs.declared.item.Item.{Item}
 use Rattle.ofn_term.specs.declared.item.Item.TheVariants.{Atom, Group}
-use Rattle.ofn_term.specs.Writing.{Piece, opening, closing, head, atom, token_of, group_pieces, opening_pieces, item_pieces, pieces, tokens_of}
+use Rattle.ofn_term.specs.Writing.{Piece, opening, closing, atom, token_of, group_pieces, item_pieces, pieces, tokens_of}
 
 -- how items are written out
 pub record Written : Type 0 where
@@ -75,5 +75,5 @@ module _ (written : Written) (text : List ℕ) where
       let all = subst (λ (l : List Piece). All (IsTokenOf text) (map token_of l)) (written.group (Some word) inner start end items) h in
       let group = all_left (IsTokenOf text) (map token_of whole) (tokens_of items) (subst (All (IsTokenOf text)) (map-append token_of whole (pieces items)) all) in
       let parts = All-tail (IsTokenOf text) (token_of (opening start)) (map token_of (pieces inner ++ closing end ∷ []))
-          (All-tail (IsTokenOf text) word (map token_of (opening start ∷ (pieces inner ++ closing end ∷ []))) group) in
+      (All-tail (IsTokenOf text) word (map token_of (opening start ∷ (pieces inner ++ closing end ∷ []))) group) in
       all_left (IsTokenOf text) (tokens_of inner) (map token_of (closing end ∷ [])) (subst (All (IsTokenOf text)) (map-append token_of (pieces inner) (closing end ∷ [])) parts)

@@ -1,5 +1,5 @@
 -- One more element, where lists are gone through.
-use Rattle.std.proofs.Common.{◌≡◌, ◌≢◌, ◌≤◌, ◌<◌, ◌+◌, ℕ, zero, suc, List, [], ◌∷◌, ◌++◌, length, map, take, get_or, set, refl, sym, ap, subst, ◌∙◌, arith, add-one, below_more, get_or-set_same, get_or-set_other, All}
+use Rattle.std.proofs.Common.{◌≡◌, ◌<◌, ◌+◌, ℕ, zero, suc, List, [], ◌∷◌, ◌++◌, length, map, take, sym, ap, subst, ◌∙◌, arith, add-one, All}
 use Rattle.std.specs.Prelude.{Option, Some, None, slice_get, slice_index, filter_map}
 use Rattle.std.specs.List.{range_with_len, cons_option}
 use Rattle.std.specs.Option.{option_map}
@@ -53,25 +53,7 @@ module _ (order : List ℕ) (whys : List (Option (List Step))) (index : ℕ) whe
       → removed_of order whys (range_with_len 0 (index + 1)) ≡ removed_of order whys (range_with_len 0 index) ++ removed_row order index steps ∷ []
   row_taken steps some = one_row ∙ ap (λ (o : Option (List Step)). removed_of order whys (range_with_len 0 index) ++ cons_option (option_map (removed_row order index) o) []) some
 
--- the rank of one more row is noted
-pub rank_noted : (order ranks : List ℕ) (k row : ℕ) → IsEachOnce order → k < length order → slice_get order k ≡ Some row → length ranks ≡ length order
-    → ((rank : ℕ) → rank < k → slice_index ranks (slice_index order rank) ≡ rank) → (rank : ℕ) → rank < k + 1 → slice_index (set ranks row k) (slice_index order rank) ≡ rank
-rank_noted order ranks k row once inside at size noted =
-    below_more _ k
-    (λ rank low. let differs : slice_index order rank ≢ row = (λ e. let same = once.once rank k (omega arith) inside (e ∙ sym is) in absurd (omega arith)) in
-    rw get_or-set_other (noted rank low))
-    (ap (slice_index (set ranks row k)) is ∙ here)
-  where
-    is : slice_index order k ≡ row
-    is = get_or_from_slice_get order k row 0 at
-
-    below : row < length ranks
-    below = let low = once.within k inside in omega (arith, is, size, low)
-
-    here : slice_index (set ranks row k) row ≡ k
-    here = let low : row < length ranks = below in rw get_or-set_same refl
-
--- so the rank of each row is found
+-- where the rank of each row is noted, it is found
 pub rank_found : (order ranks : List ℕ) (count : ℕ) → IsEachOnce order → count ≡ length order → ((rank : ℕ) → rank < count → slice_index ranks (slice_index order rank) ≡ rank)
     → (index : ℕ) → index < length order → slice_index ranks index ≡ rank_of_row order (index + 1)
 rank_found order ranks count once all noted index inside =

@@ -96,38 +96,44 @@ module _ (case : CaseView) (marks : List Mark) (whys : List (Option (List Step))
           let kept : mark_at marks rank ≡ Kept = (book.held rank).0 h in
           let bad : Open ≡ Kept = sym none ∙ kept in cc
 
+  -- a kept rank that has a row is the row's rank
+  same_rank : (index : ℕ) → index < length case.order → (rank : ℕ) → Contains (kept_of marks) rank → slice_index case.order rank ≡ index
+      → rank ≡ rank_of_row case.order (index + 1)
+  same_rank index inside rank held is =
+      let own = row_again case.order book.once index inside in
+      book.once.once rank (rank_of_row case.order (index + 1)) (kept_below rank held) own.0 (is ∙ sym own.1)
+
+  -- so a removed row has no kept rank
+  not_ranked : (index : ℕ) → index < length case.order → (steps : List Step) → why_of case.order whys index ≡ Some steps
+      → (rank : ℕ) → Contains (kept_of marks) rank → nat_eq (slice_index case.order rank) index ≡ false
+  not_ranked index inside steps some rank held = by (nat_eq (slice_index case.order rank) index) refl
+    where
+      by : (b : Bool) → nat_eq (slice_index case.order rank) index ≡ b → b ≡ false
+      by false e = refl
+      by true e =
+          let same = same_rank index inside rank held (eqb-true (slice_index case.order rank) index e) in
+          let own = row_again case.order book.once index inside in
+          let gone : mark_at marks (rank_of_row case.order (index + 1)) ≡ RemovedMark =
+              mark_is (rank_of_row case.order (index + 1)) own.0 ∙ ap mark_by some in
+          let bad : Kept ≡ RemovedMark = sym ((book.held rank).0 held) ∙ ap (mark_at marks) same ∙ gone in
+          cc
+
   -- a row has a kept rank if it is not among the removed ones
   ranked_if_left : (index : ℕ) → index < length case.order
       → list_any (λ rank. nat_eq (slice_index case.order rank) index) (kept_of marks) ≡ not (is_taken_out removed index)
-  ranked_if_left index inside = by (why_at whys rank) refl
+  ranked_if_left index inside = by (why_of case.order whys index) refl
     where
-      rank : ℕ
-      rank = rank_of_row case.order (index + 1)
-
-      own = row_again case.order book.once index inside
-
-      by : (why : Option (List Step)) → why_at whys rank ≡ why
+      by : (why : Option (List Step)) → why_of case.order whys index ≡ why
           → list_any (λ rank. nat_eq (slice_index case.order rank) index) (kept_of marks) ≡ not (is_taken_out removed index)
       by None none =
-          let kept : mark_at marks rank ≡ Kept = mark_is rank own.0 ∙ ap mark_by none in
-          any_held (λ r. nat_eq (slice_index case.order r) index) (kept_of marks) rank ((book.held rank).1 kept) (eq-eqb (slice_index case.order rank) index own.1)
+          let own = row_again case.order book.once index inside in
+          let kept : mark_at marks (rank_of_row case.order (index + 1)) ≡ Kept = mark_is (rank_of_row case.order (index + 1)) own.0 ∙ ap mark_by none in
+          any_held (λ r. nat_eq (slice_index case.order r) index) (kept_of marks) (rank_of_row case.order (index + 1)) ((book.held (rank_of_row case.order (index + 1))).1 kept)
+          (eq-eqb (slice_index case.order (rank_of_row case.order (index + 1))) index own.1)
           ∙ sym (ap not (taken_if_removed case.order whys (length case.order) index inside ∙ ap is_some none))
       by (Some steps) some =
-          none_held (λ r. nat_eq (slice_index case.order r) index) (kept_of marks) fails
+          none_held (λ r. nat_eq (slice_index case.order r) index) (kept_of marks) (not_ranked index inside steps some)
           ∙ sym (ap not (taken_if_removed case.order whys (length case.order) index inside ∙ ap is_some some))
-        where
-          gone : mark_at marks rank ≡ RemovedMark
-          gone = mark_is rank own.0 ∙ ap mark_by some
-
-          fails : (r : ℕ) → Contains (kept_of marks) r → nat_eq (slice_index case.order r) index ≡ false
-          fails r held = of (nat_eq (slice_index case.order r) index) refl
-            where
-              of : (b : Bool) → nat_eq (slice_index case.order r) index ≡ b → b ≡ false
-              of false e = refl
-              of true e =
-                  let same : r ≡ rank = book.once.once r rank (kept_below r held) own.0 (eqb-true (slice_index case.order r) index e ∙ sym own.1) in
-                  let bad : Kept ≡ RemovedMark = sym ((book.held r).0 held) ∙ ap (mark_at marks) same ∙ gone in
-                  absurd cc
 
   -- so OUT with the kept ranks is OUT without the removed rows
   pub rows_are : (rows : ℕ) → length case.order ≡ rows → rows_ranked case.order (kept_of marks) ≡ rows_left removed rows

@@ -1,6 +1,7 @@
 //! The evidence of a run: what lets a second program check it.
 #![tactic(auto)]
 
+mod cases;
 mod laws;
 mod lists;
 mod rows;

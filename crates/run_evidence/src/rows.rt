@@ -7,6 +7,7 @@ ghost use Rattle.run_evidence.specs.Tellable.{IsEachOnce};
 ghost use Rattle.run_evidence.specs.Inside.DecidedBooks.{IsDecidedBook};
 ghost use Rattle.run_evidence.specs.Inside.RowNumbers.{HasRanksBelow, source_by_row, step_by_row, removed_at};
 
+use crate::cases::case_in;
 use case_file::Case;
 use commit_book::Book;
 use derivation::{Derivation, Step};
@@ -69,7 +70,7 @@ pub fn removed_rows(alloc: Global, book: &Book) -> Result<RemovedList, AllocErro
         ≡ filter_map (removed_at book.now.case.order book.now.whys)
         (range_with_len 0 (length book.now.case.order))) }
 {
-    let case = book.case();
+    let case = case_in(book);
     let ranks = ranks_by_row(alloc, case)?;
     let mut removed = Vec::new(alloc);
     for (index, rank) in ranks.iter().enumerate() {

@@ -2,7 +2,6 @@
 
 ghost use Rattle.std.specs.Prelude.{◌≡◌, ◌+◌, ◌≤◌, ◌^◌, [], length, map, IfOk};
 ghost use Rattle.std.specs.Arc.{arc_value};
-ghost use Rattle.case_file.specs.Cases.{IsCase};
 ghost use Rattle.derivation.specs.Steps.{IsGoodDerivation};
 ghost use Rattle.accuse_core.specs.Marks.{front_of, kept_of};
 ghost use Rattle.commit_book.specs.Books.{ranks_of};
@@ -14,10 +13,10 @@ ghost use Rattle.run_evidence.specs.Tellable.{IsTellable};
 ghost use Rattle.run_evidence.specs.Inside.Named.{AreNodesOver, AreRolesOver};
 ghost use Rattle.run_evidence.specs.Inside.DecidedBooks.{IsDecidedBook};
 
+use crate::cases::case_of;
 use crate::lists::{node_lines, omitted_lists, role_lines};
 use crate::rows::{removed_rows, steps_by_row};
 use accuse_core::{Entries, front_is_the_least_undecided_rank, kept_ranks_have_the_mark};
-use case_file::Case;
 use case_load::Loaded;
 use closed_model::model_of;
 use commit_book::Book;
@@ -38,16 +37,6 @@ fn journal_of(alloc: Global, entries: &Entries) -> Result<Entries, AllocError>
         journal.push(*entry);
     }
     Ok(journal)
-}
-
-// The case, which was built.
-fn case_of(loaded: &Loaded) -> &Case
-    ensures value { result.now ≡ arc_value loaded.now.case }
-    ensures case { IsCase result.now }
-{
-    let case: &Case = &loaded.case;
-    let _store = case.store();
-    case
 }
 
 // The names of the case's nodes and roles are held, and 32 bits count its classes and properties.

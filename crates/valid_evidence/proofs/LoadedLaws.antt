@@ -1,7 +1,5 @@
 -- What valid evidence of a loaded case shows.
-use Rattle.std.proofs.Common.{◌≡◌, ℕ, ◌<◌, List, [], All, Contains, length, refl, ap, sym, subst, ◌∙◌, arith, get_or}
-use Rattle.std.specs.Prelude.{◌↔◌}
-use Rattle.std.specs.Arc.{arc_value}
+use Rattle.std.proofs.Common.{◌≡◌, ℕ, ◌<◌, List, [], Contains, length, ap, sym, subst, ◌∙◌, arith, get_or}
 use Rattle.std.proofs.lemmas.List.{length-map, append-nil}
 use Rattle.std.proofs.lemmas.List.Elements.{All-nil}
 use Rattle.text_names.specs.declared.limits.Limits.{Limits}
@@ -21,11 +19,10 @@ use Rattle.case_load.specs.declared.texts.Loaded.{Loaded}
 use Rattle.repaired_table.specs.Repaired.{repaired_text}
 use Rattle.evidence_text.specs.declared.types.Body.{Body}
 use Rattle.evidence_text.specs.declared.types.Body.TheVariants as body
-use Rattle.valid_evidence.specs.Rows.{ranks_left, steps_by_rank}
+use Rattle.valid_evidence.specs.Rows.{IsOnce, ranks_left, steps_by_rank}
 use Rattle.valid_evidence.specs.Items.{case_loaded}
 use Rattle.valid_evidence.specs.Valid.{IsDiagnosisBody, IsRefusalBody}
 use Rattle.valid_evidence.specs.Shown.{AreIncoherentWith, IsRepairedOut}
-use Rattle.valid_evidence.proofs.RankLaws.{IsOnce}
 use Rattle.valid_evidence.proofs.RowLaws.{KeptHaveMark, rows_are_ranked}
 use Rattle.valid_evidence.proofs.ShownLaws.{ExcusingNone, GoodShow, MoreRowsStay, is_closed, certified}
 
@@ -44,7 +41,7 @@ Certifies case = (count : ℕ) (kept : List ℕ) → IsClosedUnderAdding (AreInc
     → IsCertified (AreIncoherentWith case) count kept → IsRepair (AreIncoherentWith case) count kept
 
 module _ (limits : Limits) (documents : Documents) (table : Table) (loaded : Loaded) (made : IsCaseOf limits documents table loaded) (is : IsCase (case_loaded loaded)) where
-  case : CaseView
+  abbrev pub case : CaseView
   case = case_loaded loaded
 
   order_is : case.order ≡ made.order

@@ -1,12 +1,12 @@
 -- The ranks whose marks pass a test, and the rank of a row.
-use Rattle.std.proofs.Common.{◌≡◌, ℕ, zero, suc, ◌+◌, ◌<◌, ◌≤◌, Bool, true, false, cond, List, [], ◌∷◌, All, Contains, length, get_or, refl, ap, sym, subst, ◌∙◌, arith, add-one, inl, inr}
+use Rattle.std.proofs.Common.{◌≡◌, ◌≢◌, ℕ, zero, suc, ◌+◌, ◌<◌, ◌≤◌, Bool, true, false, cond, List, [], ◌∷◌, All, length, get_or, refl, ap, subst, ◌∙◌, arith, add-one, inl, inr}
 use Rattle.std.specs.Prelude.{◌==◌}
-use Rattle.std.proofs.lemmas.Bool.{cond-true, cond-false, eqb-true, eq-eqb, cases_Bool}
+use Rattle.std.proofs.lemmas.Bool.{cond-true, cond-false, eqb-true, eq-eqb, ne_eqb, cases_Bool}
 use Rattle.std.proofs.lemmas.List.Elements.{All-nil, All-cons, All-weaker, All-get_or}
 use Rattle.std.specs.List.Sorted.{IsStrictlyIncreasing}
 use Rattle.accuse_core.specs.declared.mark.Mark.{Mark}
 use Rattle.accuse_core.specs.Marks.{ranks_from}
-use Rattle.valid_evidence.specs.Rows.{rank_of_row}
+use Rattle.valid_evidence.specs.Rows.{IsOnce, rank_of_row}
 
 -- a number below all of an ascending list may stand before it
 ascend_after : (first : ℕ) (ranks : List ℕ) → All (λ rank. first < rank) ranks → IsStrictlyIncreasing ranks → IsStrictlyIncreasing (first ∷ ranks)
@@ -32,10 +32,6 @@ module _ (passes : Mark → Bool) where
       elim (passes mark) as (λ b. IsStrictlyIncreasing (cond b (first ∷ ranks) ranks))
       [ true ↦ ascend_after first ranks above (ranks_ascend (suc first) marks) | false ↦ ranks_ascend (suc first) marks ]
 
--- no row is at two places of the order
-abbrev pub IsOnce : List ℕ → Type 0
-IsOnce order = (one other : ℕ) → one < length order → other < length order → get_or order one 0 ≡ get_or order other 0 → one ≡ other
-
 -- the place of a row is its rank
 pub rank_of_place : (order : List ℕ) (rank : ℕ) → IsOnce order → rank < length order → rank_of_row order (get_or order rank 0 + 1) ≡ rank
 rank_of_place [] rank once inside = absurd (omega arith)
@@ -43,14 +39,22 @@ rank_of_place (index ∷ order) zero once inside = cond-true (index + 1 == index
 rank_of_place (index ∷ order) (suc rank) once inside =
     elim (cases_Bool (index + 1 == get_or order rank 0 + 1)) [
       | inl same ↦ absurd (apart (once 0 (suc rank) (omega arith) inside (equal (eqb-true (index + 1) (get_or order rank 0 + 1) same))))
-      | inr differs ↦ cond-false (index + 1 == get_or order rank 0 + 1) _ _ differs ∙ ap suc later
+      | inr differs ↦
+          cond-false (index + 1 == get_or order rank 0 + 1) _ _ differs
+          ∙ ap suc (rank_of_place order rank (λ one other low high same. one_less one other (once (suc one) (suc other) (omega arith) (omega arith) same)) (omega arith))
     ]
   where
     apart : 0 ≡ suc rank → ⊥
     apart h = omega arith
+
     equal : index + 1 ≡ get_or order rank 0 + 1 → index ≡ get_or order rank 0
     equal h = omega arith
+
     one_less : (one other : ℕ) → suc one ≡ suc other → one ≡ other
     one_less one other h = omega arith
-    later : rank_of_row order (get_or order rank 0 + 1) ≡ rank
-    later = rank_of_place order rank (λ one other low high same. one_less one other (once (suc one) (suc other) (omega arith) (omega arith) same)) (omega arith)
+
+-- a number that is no row's has no rank
+pub no_rank : (order : List ℕ) (row : ℕ) → ((k : ℕ) → k < length order → get_or order k 0 + 1 ≢ row) → rank_of_row order row ≡ length order
+no_rank [] row none = refl
+no_rank (index ∷ order) row none =
+    cond-false (index + 1 == row) _ _ (ne_eqb (index + 1) row (none 0 (omega arith))) ∙ ap suc (no_rank order row (λ k inside. none (suc k) (omega arith)))

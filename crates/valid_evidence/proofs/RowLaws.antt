@@ -1,7 +1,7 @@
 -- Removed rows by their ranks.
-use Rattle.std.proofs.Common.{◌≡◌, ℕ, suc, ◌+◌, ◌<◌, Bool, true, false, cond, List, [], ◌∷◌, ◌++◌, map, Contains, length, get_or, refl, ap, sym, subst, ◌∙◌, arith, inl, inr, ⊎_elim, true≢false}
-use Rattle.std.specs.Prelude.{◌↔◌, ◌==◌, not, nat_lt}
-use Rattle.std.specs.List.{list_any, range_with_len, filter}
+use Rattle.std.proofs.Common.{◌≡◌, ℕ, suc, ◌+◌, ◌<◌, Bool, true, false, List, [], ◌∷◌, map, Contains, length, get_or, refl, ap, sym, subst, ◌∙◌, arith, ⊎_elim}
+use Rattle.std.specs.Prelude.{◌↔◌, ◌==◌, not}
+use Rattle.std.specs.List.{list_any, range_with_len}
 use Rattle.std.proofs.lemmas.Bool.{cond-true, cond-false, cases_Bool, cases_lt, eqb-true, eq-eqb, not-true}
 use Rattle.std.proofs.lemmas.List.{get_or-map, get_or_past, get_or_default, length-map}
 use Rattle.std.proofs.lemmas.List.FromFn.{length-range_with_len, get_or-range_with_len}
@@ -10,9 +10,8 @@ use Rattle.accuse_core.specs.declared.mark.Mark.{Mark}
 use Rattle.accuse_core.specs.declared.mark.Mark.TheVariants as M
 use Rattle.accuse_core.specs.Marks.{mark_at, kept_of}
 use Rattle.evidence_text.specs.declared.types.Removed.{Removed}
-use Rattle.valid_evidence.specs.Rows.{is_taken_out, rows_left, decided_mark, decided_marks, ranks_left, rank_of_row}
+use Rattle.valid_evidence.specs.Rows.{is_taken_out, rows_left, decided_mark, decided_marks, ranks_left}
 use Rattle.valid_evidence.specs.Shown.{rows_ranked}
-use Rattle.valid_evidence.proofs.RankLaws.{IsOnce, rank_of_place}
 
 -- the kept ranks are those with the mark
 abbrev pub KeptHaveMark : Type 0
@@ -44,7 +43,7 @@ removed_row removed index h =
     let r = found (λ r. r.row == index + 1) removed h in (r.0, r.1, eqb-true r.0.row (index + 1) r.2)
 
 module _ (law : KeptHaveMark) (removed : List Removed) (order : List ℕ) where
-  marks : List Mark
+  abbrev marks : List Mark
   marks = decided_marks removed order
 
   mark_is : (rank : ℕ) → rank < length order → mark_at marks rank ≡ decided_mark removed (get_or order rank 0)
@@ -81,11 +80,14 @@ module _ (law : KeptHaveMark) (removed : List Removed) (order : List ℕ) where
     where
       test : ℕ → Bool
       test rank = get_or order rank 0 == index
+
       row_at : get_or order held.0 0 ≡ index
       row_at = get_or_default order held.0 0 index held.1 ∙ held.2
+
       into : not (is_taken_out removed index) ≡ true → list_any test (ranks_left removed order) ≡ true
       into h = any_of test (ranks_left removed order) held.0
           (left_is_kept held.0 held.1 (ap (is_taken_out removed) row_at ∙ not-true (is_taken_out removed index) h)) (eq-eqb (get_or order held.0 0) index row_at)
+
       back : list_any test (ranks_left removed order) ≡ true → not (is_taken_out removed index) ≡ true
       back h =
           let rank = found test (ranks_left removed order) h in
@@ -101,5 +103,6 @@ module _ (law : KeptHaveMark) (removed : List Removed) (order : List ℕ) where
     where
       below : (k : ℕ) → k < length (range_with_len 0 rows) → k < rows
       below k inside = omega (arith, inside, length-range_with_len 0 rows)
+
       number : (k : ℕ) → k < length (range_with_len 0 rows) → get_or (range_with_len 0 rows) k 0 ≡ k
       number k inside = get_or-range_with_len 0 rows k 0 (below k inside) ∙ omega arith

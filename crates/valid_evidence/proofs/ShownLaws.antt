@@ -1,6 +1,6 @@
 -- What valid evidence shows.
-use Rattle.std.proofs.Common.{◌≡◌, ℕ, ◌+◌, ◌<◌, List, [], ◌∷◌, ◌++◌, All, Contains, length, get_or, refl, ap, sym, subst, ◌∙◌, arith}
-use Rattle.std.specs.Prelude.{◌↔◌, ◌≤◌, nat_lt}
+use Rattle.std.proofs.Common.{◌≡◌, ℕ, true, ◌<◌, List, [], All, Contains, length, get_or, ap, subst, ◌∙◌}
+use Rattle.std.specs.Prelude.{◌↔◌, nat_lt}
 use Rattle.std.specs.List.{filter}
 use Rattle.std.proofs.lemmas.Bool.{ltb-true}
 use Rattle.std.proofs.lemmas.List.Elements.{All-contains, All-contains_itself, All-filter, All-push, All-weaker, filter_passes}
@@ -15,10 +15,10 @@ use Rattle.accuse_core.specs.Marks.{is_kept}
 use Rattle.case_file.specs.Cases.{CaseView, IsCase}
 use Rattle.case_file.specs.Incoherence.{IsIncoherentFor, axioms_for}
 use Rattle.evidence_text.specs.declared.types.Removed.{Removed}
-use Rattle.valid_evidence.specs.Rows.{decided_marks, ranks_left, ranks_up_to, rank_of_row, steps_by_rank}
+use Rattle.valid_evidence.specs.Rows.{IsOnce, decided_marks, ranks_left, ranks_up_to, rank_of_row, steps_by_rank}
 use Rattle.valid_evidence.specs.Items.{IsShownEmpty, HasModelForm, HoldInModel, HaveMembers}
 use Rattle.valid_evidence.specs.Shown.{AreIncoherentWith}
-use Rattle.valid_evidence.proofs.RankLaws.{IsOnce, ranks_ascend, rank_of_place}
+use Rattle.valid_evidence.proofs.RankLaws.{ranks_ascend, rank_of_place}
 use Rattle.valid_evidence.proofs.RowLaws.{KeptHaveMark, removed_row, kept_is_inside, not_kept}
 
 -- a case that excuses no class is incoherent if its axioms are
@@ -50,7 +50,7 @@ module _ (excusing : ExcusingNone) (good : GoodShow) (more : MoreRowsStay) (law 
       (excusing case Part.Both whole plain).0 (more case Part.Both part whole within ((excusing case Part.Both part plain).1 h))
 
   module _ (once : IsOnce case.order) (removed : List Removed) (each : All (IsShownEmpty case removed) removed) where
-    kept : List ℕ
+    abbrev pub kept : List ℕ
     kept = ranks_left removed case.order
 
     -- ranks before a rank and it itself are ranks
@@ -67,7 +67,7 @@ module _ (excusing : ExcusingNone) (good : GoodShow) (more : MoreRowsStay) (law 
         let shown : IsShownEmpty case removed r.0 = All-contains (IsShownEmpty case removed) removed r.0 each r.1 in
         let number : rank_of_row case.order r.0.row ≡ rank = ap (rank_of_row case.order) r.2 ∙ rank_of_place case.order rank once inside in
         let derived : IsGoodDerivation case Part.Both (ranks_up_to kept rank) (steps_by_rank case.order r.0.steps)
-            = subst (λ n. IsGoodDerivation case Part.Both (ranks_up_to kept n) (steps_by_rank case.order r.0.steps)) number shown in
+        = subst (λ n. IsGoodDerivation case Part.Both (ranks_up_to kept n) (steps_by_rank case.order r.0.steps)) number shown in
         record {
           others = filter (λ o. nat_lt o rank) kept;
           each = before_is kept rank;

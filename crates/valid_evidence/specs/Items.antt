@@ -1,5 +1,5 @@
 -- What evidence has to show, item by item.
-use Rattle.std.specs.Prelude.{◌≡◌, ℕ, ◌≤◌, Bool, List, [], map, length, slice_index_or, All}
+use Rattle.std.specs.Prelude.{◌≡◌, ℕ, ◌≤◌, List, [], map, length, slice_index_or, All}
 use Rattle.std.specs.Arc.{arc_value}
 use Rattle.el_logic.specs.declared.types.Interp.{Interp}
 use Rattle.el_logic.specs.declared.types.Part.{Part}
@@ -17,7 +17,6 @@ use Rattle.case_file.specs.Cases.{CaseView, IsMustHave}
 use Rattle.case_file.specs.Incoherence.{axioms_for, name_of}
 use Rattle.case_load.specs.declared.texts.Loaded.{Loaded}
 use Rattle.repaired_table.specs.Repaired.{repaired_text}
-use Rattle.evidence_lines.specs.declared.types.Kind.{Kind}
 use Rattle.evidence_lines.specs.declared.types.Kind.TheVariants as kind
 use Rattle.evidence_lines.specs.declared.types.NodeLine.{NodeLine}
 use Rattle.evidence_lines.specs.declared.types.NodeLine.TheVariants as node_is

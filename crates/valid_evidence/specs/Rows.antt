@@ -1,6 +1,6 @@
 -- What removed rows say of the ranks of a table, where the order has the index of the row with each
 -- rank. Rows have indexes from 0 and numbers from 1; evidence speaks of numbers.
-use Rattle.std.specs.Prelude.{ℕ, zero, suc, ◌+◌, ◌==◌, nat_lt, Bool, not, if◌then◌else◌, List, [], ◌∷◌, ◌++◌, map, filter}
+use Rattle.std.specs.Prelude.{◌≡◌, ℕ, zero, suc, ◌+◌, ◌<◌, ◌==◌, nat_lt, Bool, not, if◌then◌else◌, List, [], ◌∷◌, ◌++◌, map, filter, length, slice_index}
 use Rattle.std.specs.List.{list_any, range_with_len}
 use Rattle.fact_table.specs.declared.types.Source.{Source}
 use Rattle.derivation.specs.declared.types.Step.{Step}
@@ -32,6 +32,11 @@ ranks_left removed order = kept_of (decided_marks removed order)
 -- of some ranks those before this one, and then this one
 abbrev pub ranks_up_to : List ℕ → ℕ → List ℕ
 ranks_up_to kept rank = filter (λ other. nat_lt other rank) kept ++ rank ∷ []
+
+-- no row is at two places of the order
+abbrev pub IsOnce : List ℕ → Type 0
+IsOnce order = (one other : ℕ) → one < length order → other < length order
+    → slice_index order one ≡ slice_index order other → one ≡ other
 
 -- the rank of the row with this number; the number of ranks if there is no such row
 abbrev pub rank_of_row : List ℕ → ℕ → ℕ

@@ -1,12 +1,15 @@
 //! Laws on valid evidence: functions that do nothing and whose contracts are the laws.
 
-ghost use Rattle.std.specs.Prelude.{ℕ, List};
+ghost use Rattle.std.specs.Prelude.{◌≡◌, ◌≢◌, ◌<◌, ◌+◌, ℕ, false, List, length, slice_index, Contains};
+ghost use Rattle.std.specs.List.Sorted.{IsStrictlyIncreasing};
 ghost use Rattle.text_names.specs.declared.limits.Limits.{Limits};
 ghost use Rattle.el_logic.specs.declared.types.Part.{Part};
 ghost use Rattle.el_logic.specs.Incoherent.{IsIncoherent, axioms_of_part};
 ghost use Rattle.ofn_axiom.specs.declared.types.Mode.{Mode};
 ghost use Rattle.case_load.specs.Loads.{Inputs, IsLoaded};
 ghost use Rattle.evidence_text.specs.declared.types.Evidence.{Evidence};
+ghost use Rattle.evidence_text.specs.declared.types.Removed.{Removed};
+ghost use Rattle.valid_evidence.specs.Rows.{IsOnce, is_taken_out, rank_of_row, ranks_left};
 ghost use Rattle.valid_evidence.specs.Valid.{IsValidEvidence, IsValidRefusal};
 ghost use Rattle.valid_evidence.specs.Items.{case_loaded};
 ghost use Rattle.valid_evidence.specs.Shown.{IsRepairedOut};
@@ -30,6 +33,28 @@ impl Family for LoadedRanks<'_> {
     ghost use Rattle.valid_evidence.specs.Shown.{AreIncoherentWith};
 
     ghost incoherent = { λ ranks. AreIncoherentWith (case_loaded ranks.loaded.now) };
+}
+
+/// The rank of a row is its place in the order, and a number that is no row's has none. The ranks
+/// that are left are those of the rows that are left, and they ascend.
+pub fn rows_have_their_ranks()
+    ensures place { (order : List ℕ) (rank : ℕ) → IsOnce order → rank < length order
+        → rank_of_row order (slice_index order rank + 1) ≡ rank }
+    ensures none { (order : List ℕ) (row : ℕ)
+        → ((k : ℕ) → k < length order → slice_index order k + 1 ≢ row)
+        → rank_of_row order row ≡ length order }
+    ensures left { (removed : List Removed) (order : List ℕ) (rank : ℕ) → rank < length order
+        → is_taken_out removed (slice_index order rank) ≡ false
+        → Contains (ranks_left removed order) rank }
+    ensures gone { (removed : List Removed) (order : List ℕ) (rank : ℕ)
+        → Contains (ranks_left removed order) rank
+        → is_taken_out removed (slice_index order rank) ≡ false }
+    ensures within { (removed : List Removed) (order : List ℕ) (rank : ℕ)
+        → Contains (ranks_left removed order) rank → rank < length order }
+    ensures ascending { (removed : List Removed) (order : List ℕ)
+        → IsStrictlyIncreasing (ranks_left removed order) }
+{
+    kept_ranks_have_the_mark();
 }
 
 /// Valid evidence for the text of OUT shows that it is the table without exactly the rows that are

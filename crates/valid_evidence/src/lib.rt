@@ -3,4 +3,6 @@
 
 mod laws;
 
-pub use laws::{valid_evidence_shows_the_repair, valid_refusals_show_incoherence};
+pub use laws::{
+    rows_have_their_ranks, valid_evidence_shows_the_repair, valid_refusals_show_incoherence,
+};

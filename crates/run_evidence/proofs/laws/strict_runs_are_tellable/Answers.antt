@@ -1,3 +1,5 @@
+use Rattle.std.proofs.Common.{subst}
+use Rattle.case_file.specs.Cases.{IsCase}
 use Rattle.run_evidence.proofs.Told.{tellable}
 use Rattle.ofn_axiom.specs.declared.types.Mode.TheVariants.{Strict}
 use Rattle.run_evidence.proofs.laws.strict_runs_are_tellable.Goals as goal
@@ -12,4 +14,4 @@ returns c texts limits is =
       iris = λ texts limits loaded. c.loaded_names_are_iris.ensures texts Strict limits loaded;
       no_left = c.strict_runs_leave_nothing_out.ensures.left;
       no_right = c.strict_runs_leave_nothing_out.ensures.right;
-    }) texts limits c.args.loaded.now is ?
+    }) texts limits c.args.loaded.now is (subst IsCase c.case_of-case.ensures.value c.case_of-case.ensures.case)
