@@ -89,7 +89,7 @@ module _ (run : Run) (names : FileNames) (limits : Limits) where
   load_quiet seen _ h = refl
 
 -- what a write left, in a folder that tells what another tells
-later_told : (o p : Option Files) (P : Files → Type 0) → p ≡ o → IfSome p P → IfSome o P
+pub later_told : (o p : Option Files) (P : Files → Type 0) → p ≡ o → IfSome p P → IfSome o P
 later_told o p P same h = subst (λ (q : Option Files). IfSome q P) same h
 
 -- what one write left, and then another

@@ -22,7 +22,7 @@ use repaired_table::write_table;
 use run_evidence::{evidence_against, evidence_of};
 use saturate::{StartFault, start};
 use status_lines::summary;
-use std::alloc::{AllocError, AllocFailed, Global};
+use std::alloc::{AllocError, Global};
 use std::sync::Arc;
 use text_names::{Bytes, Text};
 
@@ -79,7 +79,8 @@ fn refusal_text(
     ensures { IfOk result (IsRefusalEvidence loaded.now part) }
 {
     let evidence = evidence_against(alloc, loaded, part, steps)?;
-    write_evidence(alloc, &evidence)
+    let text = write_evidence(alloc, &evidence)?;
+    Ok(text)
 }
 
 // Why no rows are chosen if the ontologies leave a class empty.
@@ -133,7 +134,8 @@ fn kept_text(alloc: Global, loaded: &Loaded, book: &Book) -> Result<Bytes, Alloc
         (IsEvidence loaded.now (out_text_of loaded.now (kept_of book.now.marks))) }
 {
     let evidence = evidence_of(alloc, loaded, book)?;
-    write_evidence(alloc, &evidence)
+    let text = write_evidence(alloc, &evidence)?;
+    Ok(text)
 }
 
 // Which rows are kept.
@@ -142,7 +144,8 @@ fn chosen(alloc: Global, loaded: &Loaded, book: &Book) -> Result<KeptRows, Alloc
     requires book { IsDecidedFor loaded.now book.now }
     ensures { IfOk result (IsChoice loaded.now (kept_of book.now.marks)) }
 {
-    kept_rows(alloc, book)
+    let rows = kept_rows(alloc, book)?;
+    Ok(rows)
 }
 
 // How many axioms were left out of both ontologies.
