@@ -179,7 +179,7 @@ refused_from_first old middle new loaded name later same _ h = absurd h
 
 module _ (run : Run) (names : FileNames) (limits : Limits) (loaded : Loaded) (read : AreLoaded run.folder names limits loaded) where
   -- how a run ends whose documents leave a class empty
-  incoherent : (part : Part) (iri : List ℕ) (bytes : List ℕ) → IsRefusal loaded bytes part iri → IsIncoherentCase run.folder names limits part iri
+  abbrev incoherent : (part : Part) (iri : List ℕ) (bytes : List ℕ) → IsRefusal loaded bytes part iri → IsIncoherentCase run.folder names limits part iri
   incoherent part iri bytes r = record { loaded = loaded; read = read; class = r.found.class; first = r.found.first; named = r.found.named }
 
   abbrev Refuses : Status → Type 0
