@@ -1,4 +1,4 @@
-//! alod LEFT RIGHT MAP OUT: writes to OUT the mapping table MAP between the ontologies LEFT and
+//! alod LEFT RIGHT MAP OUT EVIDENCE: writes to OUT the mapping table MAP between the ontologies LEFT and
 //! RIGHT, without the rows that leave a class without any possible member.
 #![tactic(auto)]
 

@@ -120,9 +120,11 @@ after_evidence run middle names w later told (Status.WriteFault Target.Out) h = 
 )
 after_evidence run middle names w later told (Status.WriteFault Target.Output) h =
     (h.0, both_told run.folder.files middle.files run.folder_after.files names.evidence names.out w.evidence w.text told h.1, h.2)
-after_evidence run middle names w later told Status.OutOfMemory h =
-    (inr (⊎_elim (λ e. inl (same_told run.folder.files middle.files run.folder_after.files names.evidence w.evidence e told))
-    (λ written. inr (both_told run.folder.files middle.files run.folder_after.files names.evidence names.out w.evidence w.text told written)) h.0), h.1)
+after_evidence run middle names w later told Status.OutOfMemory h = (
+  inr (⊎_elim (λ e. inl (same_told run.folder.files middle.files run.folder_after.files names.evidence w.evidence e told))
+      (λ written. inr (both_told run.folder.files middle.files run.folder_after.files names.evidence names.out w.evidence w.text told written)) h.0),
+  h.1,
+)
 after_evidence run middle names w later told (Status.WriteFault Target.Evidence) h = absurd h
 after_evidence run middle names w later told _ h = absurd h
 

@@ -5,13 +5,7 @@ use std::alloc::Global;
 use std::test::Fail;
 
 // LEFT, RIGHT, the rows, the status and the first lines of EVIDENCE.
-type Case = (
-    &'static str,
-    &'static str,
-    &'static str,
-    u8,
-    &'static str,
-);
+type Case = (&'static str, &'static str, &'static str, u8, &'static str);
 
 static CASES: [Case; 4] = [
     (
