@@ -1,6 +1,6 @@
 -- The evidence of a book is valid and has a text, and so has that of a refusal.
-use Rattle.std.proofs.Common.{◌≡◌, ◌≤◌, ◌<◌, ◌+◌, ◌^◌, ℕ, Bool, true, List, [], ◌∷◌, ◌++◌, length, map, filter, refl, sym, ap, subst, ◌∙◌, arith, All, Contains}
-use Rattle.std.specs.Prelude.{Option, Some, None, nat_lt, IsSomeAnd, ⊤}
+use Rattle.std.proofs.Common.{◌≡◌, ◌≤◌, ◌<◌, ◌+◌, ◌^◌, ℕ, List, [], ◌∷◌, ◌++◌, length, map, sym, ap, subst, ◌∙◌, arith, All, Contains}
+use Rattle.std.specs.Prelude.{Option, Some, None, nat_lt, IsSomeAnd}
 use Rattle.std.specs.List.{AllByRecursion, range_with_len}
 use Rattle.std.proofs.lemmas.List.Elements.{All-nil, All-cons, All-head, All-tail, All-append, All-filter, All-contains_itself, All-weaker}
 use Rattle.el_logic.specs.declared.types.Interp.{Interp}
@@ -31,7 +31,7 @@ use Rattle.el_logic.specs.Meaning.{Holds}
 use Rattle.case_file.specs.Incoherence.{axioms_for}
 use Rattle.evidence_lines.specs.declared.types.Kind.TheVariants as kind
 use Rattle.evidence_text.specs.declared.types.Body.TheVariants as body
-use Rattle.valid_evidence.specs.Rows.{rank_of_row, ranks_left, ranks_up_to, steps_by_rank}
+use Rattle.valid_evidence.specs.Rows.{rank_of_row, ranks_up_to, steps_by_rank}
 use Rattle.valid_evidence.specs.Items.{case_loaded, IsRowOfTable, IsShownEmpty}
 use Rattle.valid_evidence.specs.Shown.{rows_ranked}
 use Rattle.valid_evidence.specs.Valid.{HasLists, IsValidDiagnosis, IsDiagnosisBody, IsValidEvidence, IsRefusalBody, IsValidRefusal}
@@ -40,7 +40,7 @@ use Rattle.run_evidence.specs.Inside.RowNumbers.{HasRanksBelow, step_by_row, rem
 use Rattle.run_evidence.proofs.Ranks.{row_again, steps_again}
 use Rattle.run_evidence.proofs.Taken.{removed_of, why_of, each_removed, removed_ascend}
 use Rattle.run_evidence.specs.Inside.DecidedBooks.{IsDecidedBook}
-use Rattle.run_evidence.proofs.Marks.{removed, marks_are, left_are, kept_below, rows_are, mark_is}
+use Rattle.run_evidence.proofs.Marks.{removed, marks_are, left_are, kept_below, rows_are}
 use Rattle.run_evidence.proofs.StepLines.{steps_below, steps_lines}
 use Rattle.run_evidence.proofs.Lines.{nodes_lines, roles_lines, class_lines, property_lines, entries_lines}
 

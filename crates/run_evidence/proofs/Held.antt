@@ -1,5 +1,5 @@
 -- The names of the nodes and roles of a case are held.
-use Rattle.std.proofs.Common.{◌≡◌, ◌≤◌, ◌<◌, ◌+◌, ◌^◌, ℕ, zero, suc, List, [], ◌∷◌, ◌++◌, length, map, get_or, refl, sym, ap, subst, ◌∙◌, arith, All}
+use Rattle.std.proofs.Common.{◌≡◌, ◌≤◌, ◌<◌, ◌+◌, ◌^◌, ℕ, zero, suc, List, [], ◌∷◌, ◌++◌, length, map, get_or, sym, ap, subst, arith}
 use Rattle.std.specs.Prelude.{Some, slice_get}
 use Rattle.std.specs.List.{range_with_len}
 use Rattle.std.proofs.lemmas.Option.{slice_get_within, slice_get-get_or}
@@ -8,7 +8,6 @@ use Rattle.el_logic.specs.declared.types.Axiom.{Axiom}
 use Rattle.el_logic.specs.declared.types.Side.{Side}
 use Rattle.concept_store.specs.declared.types.Node.{Node}
 use Rattle.concept_store.specs.declared.types.Node.TheVariants as node
-use Rattle.concept_store.specs.declared.types.RoleNode.{RoleNode}
 use Rattle.concept_store.specs.declared.types.RoleNode.TheVariants as role
 use Rattle.concept_store.specs.Nodes.{IsNode, part_count}
 use Rattle.concept_store.specs.Roles.{AreOver, Numbered, store_of, roles_of, parts_of, parts_in}

@@ -1,6 +1,6 @@
 -- Nodes, roles, models and journals have lines.
-use Rattle.std.proofs.Common.{◌≡◌, ◌⊎◌, inl, inr, ◌≤◌, ◌<◌, ◌+◌, ◌^◌, ℕ, zero, suc, Bool, true, false, cond, List, [], ◌∷◌, length, map, get_or, refl, sym, ap, ◌∙◌, arith, eq-eqb, lt-ltb, All}
-use Rattle.std.specs.Prelude.{Option, Some, None, nat_lt, nat_le, nat_eq, ◌&&◌, ◌||◌, ⊤}
+use Rattle.std.proofs.Common.{◌≡◌, inl, inr, ◌≤◌, ◌<◌, ◌+◌, ◌^◌, ℕ, zero, suc, Bool, true, false, cond, List, [], ◌∷◌, length, map, get_or, refl, ap, ◌∙◌, arith, eq-eqb, lt-ltb, All}
+use Rattle.std.specs.Prelude.{Some, None, nat_lt, nat_le, nat_eq, ◌&&◌, ◌||◌}
 use Rattle.std.specs.List.{AllByRecursion, AllPairs}
 use Rattle.std.specs.List.Sorted.{IsStrictlyIncreasing}
 use Rattle.std.proofs.lemmas.List.Elements.{All-head, All-tail}
@@ -13,15 +13,14 @@ use Rattle.closed_model.specs.Models.{ComesBefore}
 use Rattle.accuse_core.specs.declared.mark.Mark.{Mark}
 use Rattle.accuse_core.specs.declared.event.Event.{Event}
 use Rattle.accuse_core.specs.declared.event.Event.TheVariants as event
-use Rattle.accuse_core.specs.declared.event.Reply.{Reply}
 use Rattle.accuse_core.specs.declared.event.Reply.TheVariants as reply
 use Rattle.accuse_core.specs.declared.journal.Entry.{Entry}
 use Rattle.accuse_core.specs.Marks.{is_decided, mark_at, number_kept, front_of, with_removed, with_kept, with_note}
-use Rattle.accuse_core.specs.Events.{Stepped, replies, changes, outcome}
+use Rattle.accuse_core.specs.Events.{replies, changes, outcome}
 use Rattle.accuse_core.specs.Journal.{AreReplied}
 use Rattle.evidence_lines.specs.Names.{is_iri, HasNodeLine, HasRoleLine}
 use Rattle.evidence_lines.specs.Journal.{is_answer, answers_take, answers_front, answers_no, answers_yes, HasEntryLine}
-use Rattle.evidence_lines.specs.Model.{number_follows, pair_follows, is_pair_before, ElementsAscend, PairsAscend, HasClassLine, HasPropertyLine}
+use Rattle.evidence_lines.specs.Model.{is_pair_before, ElementsAscend, PairsAscend, HasClassLine, HasPropertyLine}
 use Rattle.evidence_text.specs.EvidenceText.{HaveLinesFrom}
 use Rattle.valid_evidence.specs.Items.{line_of_node, line_of_role}
 use Rattle.loaded_names.specs.Iris.{AreIris}

@@ -1,6 +1,6 @@
 -- One more element, where lists are gone through.
 use Rattle.std.proofs.Common.{◌≡◌, ◌<◌, ◌+◌, ℕ, zero, suc, List, [], ◌∷◌, ◌++◌, length, map, take, sym, ap, subst, ◌∙◌, arith, add-one, All}
-use Rattle.std.specs.Prelude.{Option, Some, None, slice_get, slice_index, filter_map}
+use Rattle.std.specs.Prelude.{Option, Some, None, slice_get, slice_index}
 use Rattle.std.specs.List.{range_with_len, cons_option}
 use Rattle.std.specs.Option.{option_map}
 use Rattle.std.proofs.lemmas.List.{map-append, append-nil, take_more}
@@ -8,7 +8,6 @@ use Rattle.std.proofs.lemmas.List.Elements.{filter_map-append}
 use Rattle.std.proofs.lemmas.Option.{slice_get_within, get_or_from_slice_get}
 use Rattle.std.proofs.Math.Seq.{take-length}
 use Rattle.derivation.specs.declared.types.Step.{Step}
-use Rattle.evidence_text.specs.declared.types.Removed.{Removed}
 use Rattle.run_evidence.specs.Tellable.{IsEachOnce}
 use Rattle.run_evidence.specs.Inside.RowNumbers.{removed_at, removed_row}
 use Rattle.run_evidence.proofs.Ranks.{row_again}

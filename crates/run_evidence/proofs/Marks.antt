@@ -1,6 +1,6 @@
 -- The marks of a book in which every rank is decided are those that its removed rows say.
-use Rattle.std.proofs.Common.{◌≡◌, ◌⊎◌, inl, inr, ◌≤◌, ◌<◌, ◌+◌, ℕ, zero, suc, Bool, true, false, cond, List, [], ◌∷◌, length, map, get_or, refl, sym, ap, subst, ◌∙◌, arith, eqb-true, eq-eqb, All, Contains, true≢false}
-use Rattle.std.specs.Prelude.{Option, Some, None, is_some, not, nat_eq, slice_index, ◌↔◌, ◌||◌, IsSomeAnd}
+use Rattle.std.proofs.Common.{◌≡◌, ◌⊎◌, inl, inr, ◌≤◌, ◌<◌, ◌+◌, ℕ, zero, suc, Bool, true, false, cond, List, [], ◌∷◌, length, map, get_or, refl, sym, ap, ◌∙◌, arith, eqb-true, eq-eqb, Contains, true≢false}
+use Rattle.std.specs.Prelude.{Option, Some, None, is_some, not, nat_eq, slice_index, ◌||◌}
 use Rattle.std.specs.List.{list_any, range_with_len}
 use Rattle.std.proofs.lemmas.Bool.{cases_lt}
 use Rattle.std.proofs.lemmas.List.{length-map, get_or-map, get_or_past}
@@ -15,7 +15,6 @@ use Rattle.commit_book.specs.Books.{why_at, IsWhyOf}
 use Rattle.evidence_text.specs.declared.types.Removed.{Removed}
 use Rattle.valid_evidence.specs.Rows.{rank_of_row, is_taken_out, rows_left, decided_mark, decided_marks, ranks_left}
 use Rattle.valid_evidence.specs.Shown.{rows_ranked}
-use Rattle.run_evidence.specs.Tellable.{IsEachOnce}
 use Rattle.run_evidence.specs.Inside.DecidedBooks.{IsDecidedBook}
 use Rattle.run_evidence.proofs.Ranks.{rank_again, row_again}
 use Rattle.run_evidence.proofs.Taken.{removed_of, why_of, taken_if_removed}
@@ -114,7 +113,7 @@ module _ (case : CaseView) (marks : List Mark) (whys : List (Option (List Step))
           let same = same_rank index inside rank held (eqb-true (slice_index case.order rank) index e) in
           let own = row_again case.order book.once index inside in
           let gone : mark_at marks (rank_of_row case.order (index + 1)) ≡ RemovedMark =
-              mark_is (rank_of_row case.order (index + 1)) own.0 ∙ ap mark_by some in
+          mark_is (rank_of_row case.order (index + 1)) own.0 ∙ ap mark_by some in
           let bad : Kept ≡ RemovedMark = sym ((book.held rank).0 held) ∙ ap (mark_at marks) same ∙ gone in
           cc
 

@@ -4,7 +4,7 @@ use Rattle.std.specs.Prelude.{slice_index, nat_eq}
 use Rattle.std.proofs.lemmas.List.Elements.{All-head, All-tail}
 use Rattle.fact_table.specs.declared.types.Source.{Source}
 use Rattle.derivation.specs.declared.types.Step.{Step}
-use Rattle.valid_evidence.specs.Rows.{rank_of_row, source_by_rank, step_by_rank, steps_by_rank}
+use Rattle.valid_evidence.specs.Rows.{rank_of_row, source_by_rank, steps_by_rank}
 use Rattle.run_evidence.specs.Tellable.{IsEachOnce}
 use Rattle.run_evidence.specs.Inside.RowNumbers.{HasRanksBelow, source_by_row, step_by_row}
 

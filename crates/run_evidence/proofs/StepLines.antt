@@ -1,11 +1,11 @@
 -- The steps of a good derivation have lines, once they name rows by their numbers.
-use Rattle.std.proofs.Common.{◌≡◌, ◌⊎◌, inl, inr, ◌≤◌, ◌<◌, ◌+◌, ℕ, zero, suc, Bool, true, false, List, [], ◌∷◌, ◌++◌, length, map, filter, refl, sym, ap, subst, ◌∙◌, arith, All, Contains, get_or}
-use Rattle.std.specs.Prelude.{Some, slice_get, slice_index_or, nat_lt, ⊤}
+use Rattle.std.proofs.Common.{◌≡◌, ◌⊎◌, inl, inr, ◌≤◌, ◌<◌, ◌+◌, ℕ, zero, suc, Bool, true, false, List, [], ◌∷◌, length, map, refl, sym, ap, subst, ◌∙◌, arith, All, Contains, get_or}
+use Rattle.std.specs.Prelude.{Some, slice_get, slice_index_or}
 use Rattle.std.specs.List.{AllByRecursion}
 use Rattle.std.proofs.lemmas.Bool.{cases_lt}
 use Rattle.std.proofs.lemmas.List.{get_or_past}
 use Rattle.std.proofs.lemmas.Option.{slice_get_within, slice_get-get_or}
-use Rattle.std.proofs.lemmas.List.Elements.{All-nil, All-cons, All-append, All-filter, All-contains, All-get_or, Contains-append_left, Contains-append_right, Contains-push}
+use Rattle.std.proofs.lemmas.List.Elements.{All-contains, All-get_or, Contains-append_left, Contains-append_right, Contains-push}
 use Rattle.el_logic.specs.declared.types.Part.{Part}
 use Rattle.concept_store.specs.declared.types.Node.{Node}
 use Rattle.concept_store.specs.declared.types.NodeAxiom.{NodeAxiom}
@@ -16,10 +16,10 @@ use Rattle.fact_table.specs.declared.types.Rule.TheVariants as rule
 use Rattle.fact_table.specs.declared.types.Source.{Source}
 use Rattle.el_rules.specs.Rules.{Gives}
 use Rattle.el_rules.specs.Following.{NamesNoMore}
-use Rattle.el_rules.specs.Theories.{IsNamedBy, IsSourceOf, IsNamed}
+use Rattle.el_rules.specs.Theories.{IsNamedBy, IsSourceOf}
 use Rattle.case_file.specs.Cases.{CaseView, theory_of}
 use Rattle.derivation.specs.declared.types.Step.{Step}
-use Rattle.derivation.specs.Steps.{AreGoodSteps, IsGoodStep, IsStepBefore, IsGoodDerivation}
+use Rattle.derivation.specs.Steps.{AreGoodSteps, IsGoodStep, IsStepBefore}
 use Rattle.evidence_lines.specs.Steps.{names_first, names_second, names_axiom, IsPremise, IsSource, HasStepLine}
 use Rattle.run_evidence.specs.Inside.RowNumbers.{HasRanksBelow, source_by_row, step_by_row}
 

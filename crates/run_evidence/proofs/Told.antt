@@ -1,6 +1,6 @@
 -- What is loaded in the strict mode has evidence.
-use Rattle.std.proofs.Common.{◌≡◌, ◌⊎◌, inl, inr, ◌≤◌, ◌<◌, ◌+◌, ℕ, List, [], ◌∷◌, ◌++◌, length, map, get_or, refl, sym, ap, subst, ◌∙◌, arith, All}
-use Rattle.std.specs.Prelude.{slice_index, slice_index_or, None}
+use Rattle.std.proofs.Common.{◌≡◌, ◌⊎◌, inl, inr, ◌≤◌, ◌<◌, ℕ, List, [], ◌++◌, length, map, get_or, sym, ap, subst, ◌∙◌, arith, All}
+use Rattle.std.specs.Prelude.{slice_index, None}
 use Rattle.std.specs.Arc.{arc_value}
 use Rattle.std.proofs.lemmas.Bool.{cases_lt}
 use Rattle.std.proofs.lemmas.List.{length-map, get_or_past, get_or_default}
@@ -11,9 +11,7 @@ use Rattle.concept_store.specs.declared.types.NodeAxiom.{NodeAxiom}
 use Rattle.ofn_axiom.specs.declared.types.Mode.TheVariants.{Strict}
 use Rattle.ofn_axiom.specs.declared.types.Names.{Names}
 use Rattle.ofn_axiom.specs.declared.types.Omitted.{Omitted}
-use Rattle.ofn_axiom.specs.declared.types.SideOmitted.{SideOmitted}
 use Rattle.el_logic.specs.declared.types.Side.TheVariants as side
-use Rattle.evidence_lines.specs.declared.types.SidedOmitted.{SidedOmitted}
 use Rattle.predicate_axioms.specs.RowAxioms.{row_axioms}
 use Rattle.rank_order.specs.Order.{IsRanking}
 use Rattle.sssom_rows.specs.declared.table.Row.{Row}

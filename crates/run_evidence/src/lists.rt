@@ -5,8 +5,8 @@ ghost use Rattle.valid_evidence.specs.Items.{line_of_node, line_of_role};
 ghost use Rattle.run_evidence.specs.Inside.Named.{IsNodeOver, IsRoleOver, AreNodesOver, AreRolesOver};
 
 use concept_store::{Node, RoleNode, Store};
-use evidence_text::Kind;
 use evidence_lines::{NodeLine, NodeLines, RoleLine, RoleLines};
+use evidence_text::Kind;
 use ofn_axiom::{OmittedList, SideOmitted};
 use std::alloc::{AllocError, Global};
 use text_names::NameTable;

@@ -47,11 +47,7 @@ fn source_by_row(case: &Case, source: Source) -> Source
 }
 
 /// The steps of a derivation, with the numbers of rows in the place of ranks.
-pub fn steps_by_row(
-    alloc: Global,
-    case: &Case,
-    steps: &[Step],
-) -> Result<Derivation, AllocError>
+pub fn steps_by_row(alloc: Global, case: &Case, steps: &[Step]) -> Result<Derivation, AllocError>
     requires { All (λ step. HasRanksBelow (length case.now.order) step.source) steps.now }
     ensures { IfOk result (λ told. told ≡ map (step_by_row case.now.order) steps.now) }
 {

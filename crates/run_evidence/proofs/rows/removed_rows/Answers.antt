@@ -7,7 +7,7 @@ use Rattle.commit_book.specs.Books.{why_at}
 use Rattle.evidence_text.specs.declared.types.Removed.{Removed}
 use Rattle.valid_evidence.specs.Rows.{rank_of_row}
 use Rattle.run_evidence.specs.Inside.RowNumbers.{HasRanksBelow, step_by_row}
-use Rattle.run_evidence.proofs.Taken.{removed_of, why_of}
+use Rattle.run_evidence.proofs.Taken.{removed_of}
 use Rattle.run_evidence.proofs.Bodies.{why_below}
 use Rattle.run_evidence.proofs.Loops.{row_left, row_taken}
 use Rattle.run_evidence.proofs.rows.removed_rows.Goals as goal
@@ -65,7 +65,7 @@ loop-index-preserved c =
     let some : Some c.in-Some.why.now ≡ why_at book.whys (get_or items index 0) = first_of (search rules, cc c.in-Some.ensures) in
     let before = removed_of order book.whys (range_with_len 0 index) in
     let told : c.in_ok-steps.steps ≡ map (step_by_row order) c.in-Some.why.now =
-        c.in_ok-steps.ensures ∙ ap (λ (d : CaseView). map (step_by_row d.order) c.as_slice.result.now) c.case_in-case.ensures.value ∙ ap (map (step_by_row order)) c.as_slice.ensures in
+    c.in_ok-steps.ensures ∙ ap (λ (d : CaseView). map (step_by_row d.order) c.as_slice.result.now) c.case_in-case.ensures.value ∙ ap (map (step_by_row order)) c.as_slice.ensures in
     let one : List Step → Removed = λ (steps : List Step). record { row = index + 1; steps = steps } in
     c.in_ok-push.ensures.items
     ∙ ap (λ (rows : List Removed). rows ++ one c.in_ok-steps.steps ∷ []) c.loop-index.invariant

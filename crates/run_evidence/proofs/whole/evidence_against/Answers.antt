@@ -1,4 +1,4 @@
-use Rattle.std.proofs.Common.{List, [], ℕ, ◌<◌, length, map, sym, ap, subst, ◌∙◌, All}
+use Rattle.std.proofs.Common.{List, [], ◌<◌, length, map, sym, ap, subst, ◌∙◌, All}
 use Rattle.std.proofs.lemmas.List.Elements.{All-nil}
 use Rattle.derivation.specs.declared.types.Step.{Step}
 use Rattle.case_file.specs.Cases.{CaseView}
