@@ -1,0 +1,4 @@
+mod RankLaws
+mod RowLaws
+mod ShownLaws
+mod LoadedLaws
