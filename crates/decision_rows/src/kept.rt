@@ -1,6 +1,7 @@
 //! The ranks that are kept.
 
 use crate::setting::{chosen, made};
+use closed_model::ClosedTable;
 use saturate::start;
 use std::alloc::Global;
 use std::test::Fail;
@@ -12,23 +13,32 @@ const APART: &str = "DisjointClasses(:A :B)";
 
 const X_ALONE: &str = "Declaration(Class(:X))";
 
-const CHAINED: &str = "SubClassOf(:A ObjectSomeValuesFrom(:r :B)) \
+pub(crate) const CHAINED: &str = "SubClassOf(:A ObjectSomeValuesFrom(:r :B)) \
 SubObjectPropertyOf(ObjectPropertyChain(:r :s) :t) \
 DisjointClasses(:A ObjectSomeValuesFrom(:t :C))";
 
-const LED: &str = "SubClassOf(:X ObjectSomeValuesFrom(:u :Y))";
+pub(crate) const LED: &str = "SubClassOf(:X ObjectSomeValuesFrom(:u :Y))";
 
-// The ranks that are kept of two ontologies and rows.
-fn kept(alloc: Global, left: &str, right: &str, rows: &str) -> Result<Vec<u32>, Fail> {
+/// The table of no ranks of two ontologies with these axioms and of a table with these rows.
+pub(crate) fn first(
+    alloc: Global,
+    left: &str,
+    right: &str,
+    rows: &str,
+) -> Result<ClosedTable, Fail> {
     let left = format!(in alloc; "Prefix(:=<http://l/>) Ontology({left})")?;
     let right = format!(in alloc; "Prefix(:=<http://r/>) Ontology({right})")?;
     let map = format!(in alloc; "{HEADER}{rows}")?;
     let loaded = made(alloc, left.as_str(), right.as_str(), map.as_str())?;
-    let first = match start(alloc, &loaded.case) {
-        Ok(table) => table,
-        Err(_) => return Err("incoherent".into()),
-    };
-    let table = chosen(alloc, first)?;
+    match start(alloc, &loaded.case) {
+        Ok(table) => Ok(table),
+        Err(_) => Err("incoherent".into()),
+    }
+}
+
+// The ranks that are kept.
+fn kept(alloc: Global, left: &str, right: &str, rows: &str) -> Result<Vec<u32>, Fail> {
+    let table = chosen(alloc, first(alloc, left, right, rows)?)?;
     Ok(Vec::from_slice(alloc, table.ranks())?)
 }
 
@@ -89,6 +99,65 @@ fn rows_about_properties(rt: HostRuntime) -> Result<(), Fail> {
     for (name, left, right, rows, ranks) in cases {
         let found = kept(alloc, left, right, rows)?;
         assert!(rt; found.as_slice() == ranks, "{name}");
+    }
+    Ok(())
+}
+
+// A case: its name, LEFT, RIGHT, the rows, and the ranks that are kept.
+type Rows = (
+    &'static str,
+    &'static str,
+    &'static str,
+    &'static str,
+    &'static [u32],
+);
+
+static LATE: [Rows; 5] = [
+    (
+        "a domain over an old link",
+        "SubClassOf(:A ObjectSomeValuesFrom(:r :B))",
+        "ObjectPropertyDomain(:s :X) DisjointClasses(:X :Y)",
+        "l:A\tskos:broadMatch\tr:Y\t0.9\nl:r\trdfs:subPropertyOf\tr:s\t0.8\n",
+        &[0],
+    ),
+    (
+        "a chain over old links",
+        "SubClassOf(:A ObjectSomeValuesFrom(:r :B)) SubClassOf(:B ObjectSomeValuesFrom(:r :C))",
+        "TransitiveObjectProperty(:s) DisjointClasses(:X ObjectSomeValuesFrom(:s :Y))",
+        "l:A\tskos:broadMatch\tr:X\t0.9\nl:C\tskos:broadMatch\tr:Y\t0.8\n\
+l:r\trdfs:subPropertyOf\tr:s\t0.7\n",
+        &[0, 1],
+    ),
+    (
+        "a reflexive property gets a domain",
+        "ReflexiveObjectProperty(:r) SubClassOf(:A :B)",
+        "ObjectPropertyDomain(:s :X) SubClassOf(:X :Y) DisjointClasses(:Y :Z)",
+        "r:Z\tskos:broadMatch\tl:A\t0.9\nl:r\trdfs:subPropertyOf\tr:s\t0.8\n",
+        &[0],
+    ),
+    (
+        "the domain of a reflexive property is below a class",
+        "ReflexiveObjectProperty(:r) ObjectPropertyDomain(:r :A)",
+        "DisjointClasses(:X :Y)",
+        "l:A\tskos:broadMatch\tr:X\t0.9\nr:X\tskos:broadMatch\tl:A\t0.8\n",
+        &[1],
+    ),
+    (
+        "ranks without axioms",
+        "DisjointClasses(:A :B)",
+        "Declaration(Class(:X))",
+        "r:X\tskos:closeMatch\tl:A\t0.9\nr:X\tskos:broadMatch\tl:A\t0.8\n\
+r:X\tskos:broadMatch\tl:B\t0.7\nr:X\tskos:broadMatch\tl:Q\t0.6\n",
+        &[0, 1, 3],
+    ),
+];
+
+#[test]
+fn rows_that_meet_what_is_known(rt: HostRuntime) -> Result<(), Fail> {
+    let alloc = rt.alloc();
+    for (name, left, right, rows, ranks) in &LATE {
+        let found = kept(alloc, left, right, rows)?;
+        assert!(rt; found.as_slice() == *ranks, "{name}");
     }
     Ok(())
 }

@@ -2,9 +2,15 @@
 #![tactic(auto)]
 
 #[cfg(test)]
+mod blocks;
+#[cfg(test)]
 mod incoherent;
 #[cfg(test)]
 mod kept;
+#[cfg(test)]
+mod models;
+#[cfg(test)]
+mod rules;
 #[cfg(test)]
 mod setting;
 #[cfg(test)]

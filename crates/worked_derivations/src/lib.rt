@@ -2,6 +2,8 @@
 #![tactic(auto)]
 
 #[cfg(test)]
+mod models;
+#[cfg(test)]
 mod rows;
 #[cfg(test)]
 mod rules;

@@ -6,11 +6,11 @@ use el_logic::Part;
 use fact_table::{Fact, Rule, Source};
 use std::test::Fail;
 
-const DISJOINT: &str = "Prefix(:=<http://l/>) Ontology(DisjointClasses(:A :B))";
+pub(crate) const DISJOINT: &str = "Prefix(:=<http://l/>) Ontology(DisjointClasses(:A :B))";
 
-const BELOW: &str = "Prefix(:=<http://r/>) Ontology(SubClassOf(:X :Y))";
+pub(crate) const BELOW: &str = "Prefix(:=<http://r/>) Ontology(SubClassOf(:X :Y))";
 
-const ROWS: &str = "l:A\tskos:exactMatch\tr:X\t0.9
+pub(crate) const ROWS: &str = "l:A\tskos:exactMatch\tr:X\t0.9
 l:B\tskos:exactMatch\tr:Y\t0.8
 l:B\tskos:broadMatch\tr:Y\t0.7
 ";

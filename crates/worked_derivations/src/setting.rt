@@ -31,7 +31,7 @@ pub(crate) fn made(alloc: Global, left: &str, right: &str, map: &str) -> Result<
 }
 
 // The ranks ascend and are those of rows.
-fn are_ranks(case: &Case, ranks: &[u32]) -> bool
+pub(crate) fn are_ranks(case: &Case, ranks: &[u32]) -> bool
     ensures { IsTrue result → AreRanksOf case.now ranks.now }
 {
     let mut least = 0;
