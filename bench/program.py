@@ -14,7 +14,7 @@ import sys
 import tempfile
 
 REPOSITORY = pathlib.Path(__file__).resolve().parent.parent
-COMMAND = [str(REPOSITORY / "crates" / "alod" / "out" / "alod"), "{left}", "{right}", "{map}", "{out}"]
+COMMAND = [str(REPOSITORY / "crates" / "alod" / "out" / "alod"), "{left}", "{right}", "{map}", "{out}", "{evidence}"]
 
 
 def main():

@@ -1,5 +1,5 @@
-//! alod LEFT RIGHT MAP OUT EVIDENCE: writes to OUT the mapping table MAP between the ontologies LEFT and
-//! RIGHT, without the rows that leave a class without any possible member.
+//! alod LEFT RIGHT MAP OUT EVIDENCE: writes to OUT the mapping table MAP between the ontologies LEFT
+//! and RIGHT, without the rows that leave a class without any possible member, and to EVIDENCE why.
 #![tactic(auto)]
 
 ghost use Rattle.std.specs.Prelude.{◌≡◌};
