@@ -1,20 +1,27 @@
 -- What the stages of a check say of the whole diagnosis.
-use Rattle.std.proofs.Common.{◌≡◌, ℕ, ◌<◌, Bool, List, All, length, get_or, ap, sym, ◌∙◌}
+use Rattle.std.proofs.Common.{◌≡◌, ℕ, Bool, List, length, ap, sym, subst, ◌∙◌, inr}
 use Rattle.std.specs.Prelude.{Option, Some, None, MatchOption}
 use Rattle.el_logic.specs.declared.types.Interp.{Interp}
+use Rattle.el_logic.specs.declared.types.Part.{Part}
+use Rattle.derivation.specs.declared.types.Step.{Step}
+use Rattle.accuse_core.specs.Seen.{EntriesSeen}
 use Rattle.accuse_core.specs.declared.journal.Entry.{Entry}
 use Rattle.accuse_core.specs.Journal.{replayed}
 use Rattle.case_file.specs.Cases.{CaseView, IsCase}
 use Rattle.case_load.specs.declared.texts.Loaded.{Loaded}
 use Rattle.closed_model.specs.Models.{IsModelFor}
 use Rattle.repaired_table.specs.Repaired.{repaired_text}
+use Rattle.evidence_lines.specs.declared.types.Kind.TheVariants as kind
 use Rattle.evidence_text.specs.declared.types.Removed.{Removed}
+use Rattle.evidence_text.specs.declared.types.Body.{Body}
+use Rattle.evidence_text.specs.declared.types.Body.TheVariants as body
+use Rattle.evidence_text.specs.declared.types.Evidence.{Evidence}
 use Rattle.valid_evidence.specs.Rows.{rows_left, ranks_left, decided_marks}
-use Rattle.valid_evidence.specs.Items.{case_loaded, IsOutOf, IsShownEmpty, IsRepliedJournal}
-use Rattle.valid_evidence.specs.Valid.{IsValidDiagnosis}
+use Rattle.valid_evidence.specs.Items.{case_loaded, IsRepliedJournal, IsPartShownEmpty}
+use Rattle.valid_evidence.specs.Valid.{HasLists, IsValidDiagnosis, IsDiagnosisBody, IsRefusalBody}
 use Rattle.check_items.specs.declared.item.BadItem.{BadItem}
 use Rattle.check_items.specs.declared.item.BadItem.TheVariants as item
-use Rattle.check_items.specs.Bad.{HasRows, HasOut, HasShown, HasModel, IsBadDiagnosis}
+use Rattle.check_items.specs.Bad.{HasOut, HasShown, HasModel, IsBadDiagnosis, IsBadBody, HasDiagnosis, IsOfDiagnosis, IsItemAnswer, HasRefusal, IsOfRefusal, IsBadPart, IsBadPartBody, IsRefusalAnswer}
 use Rattle.check_items.specs.Inside.Plain.{IsPlain}
 use Rattle.check_items.specs.Inside.Tables.{HasItsRows, marks_by}
 use Rattle.check_items.specs.Inside.Stages.{IsStepsFault, IsModelBad, IsJournalFault}
@@ -68,3 +75,35 @@ module _ (loaded : Loaded) (out : List ℕ) (removed : List Removed) (model : In
     journal = h.0;
     decided = h.1 ∙ marks_are_decided removed (case_loaded loaded).order (length (case_loaded loaded).order) (case_has_rows (case_loaded loaded) is);
   }
+
+-- what a whole diagnosis is answered
+pub diagnosis_answer : (loaded : Loaded) (out : List ℕ) (e : Evidence) (removed given : List Removed) (model : Interp) (journal : EntriesSeen) (entries : List Entry)
+    → e.kind ≡ kind.Diagnosis → e.body ≡ body.Diagnosis removed model journal → given ≡ removed → entries ≡ journal.entries → HasLists loaded e → (found : Option BadItem)
+    → MatchOption found (IsValidDiagnosis loaded out given model entries) (IsBadDiagnosis loaded out given model entries) → IsItemAnswer loaded out e found
+diagnosis_answer loaded out e removed given model journal entries kind_is body_is rows_are entries_are lists found h =
+    answer found (subst (λ (rs : List Removed). MatchOption found (IsValidDiagnosis loaded out rs model journal.entries) (IsBadDiagnosis loaded out rs model journal.entries)) rows_are
+    (subst (λ (es : List Entry). MatchOption found (IsValidDiagnosis loaded out given model es) (IsBadDiagnosis loaded out given model es)) entries_are h))
+  where
+    of_it : IsOfDiagnosis e
+    of_it = (kind_is, subst HasDiagnosis (sym body_is) tt)
+
+    answer : (found : Option BadItem) → MatchOption found (IsValidDiagnosis loaded out removed model journal.entries) (IsBadDiagnosis loaded out removed model journal.entries)
+        → IsItemAnswer loaded out e found
+    answer None v = record { kind = kind_is; lists = lists; body = subst (IsDiagnosisBody loaded out) (sym body_is) v }
+    answer (Some item.Kind) wrong = absurd wrong
+    answer (Some bad) wrong = (of_it, inr (lists, subst (λ (b : Body). IsBadBody loaded out b bad) (sym body_is) wrong))
+
+-- what a whole refusal is answered
+pub refusal_answer : (loaded : Loaded) (e : Evidence) (part : Part) (steps given : List Step) → e.kind ≡ kind.Refusal part → e.body ≡ body.Refusal steps → given ≡ steps
+    → HasLists loaded e → (found : Option BadItem)
+    → MatchOption found (IsPartShownEmpty (case_loaded loaded) part given) (IsBadPart (case_loaded loaded) part given) → IsRefusalAnswer loaded e found
+refusal_answer loaded e part steps given kind_is body_is steps_are lists found h =
+    answer found (subst (λ (ss : List Step). MatchOption found (IsPartShownEmpty (case_loaded loaded) part ss) (IsBadPart (case_loaded loaded) part ss)) steps_are h)
+  where
+    of_it : IsOfRefusal part e
+    of_it = (kind_is, subst HasRefusal (sym body_is) tt)
+
+    answer : (found : Option BadItem) → MatchOption found (IsPartShownEmpty (case_loaded loaded) part steps) (IsBadPart (case_loaded loaded) part steps) → IsRefusalAnswer loaded e found
+    answer None v = (part, record { kind = kind_is; lists = lists; body = subst (IsRefusalBody (case_loaded loaded) part) (sym body_is) v })
+    answer (Some item.Kind) wrong = absurd wrong
+    answer (Some bad) wrong = (part, of_it, inr (lists, subst (λ (b : Body). IsBadPartBody (case_loaded loaded) part b bad) (sym body_is) wrong))

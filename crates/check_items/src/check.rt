@@ -63,6 +63,7 @@ fn bad_diagnosis(
         None => {}
     }
     let case: &Case = &loaded.case;
+    let _case = case.store();
     let tables = row_tables(alloc, case, removed)?;
     let same = is_out(alloc, &loaded.table, tables.keep.as_slice(), out)?;
     if !same {

@@ -99,7 +99,8 @@ fn lists_nodes(loaded: &Loaded, lines: &[NodeLine]) -> bool
         return false;
     }
     for n in 0..store.nodes() {
-        if !is_node_line(&loaded.names.classes, store.node(n), &lines[n as usize]) {
+        let line = &lines[n as usize];
+        if !is_node_line(&loaded.names.classes, store.node(n), line) {
             return false;
         }
     }
@@ -117,7 +118,8 @@ fn lists_roles(loaded: &Loaded, lines: &[RoleLine]) -> bool
         return false;
     }
     for n in 0..store.roles() {
-        if !is_role_line(&loaded.names.roles, store.role(n), &lines[n as usize]) {
+        let line = &lines[n as usize];
+        if !is_role_line(&loaded.names.roles, store.role(n), line) {
             return false;
         }
     }
