@@ -1,6 +1,5 @@
 -- Valid evidence has no item that fails, item by item.
-use Rattle.std.proofs.Common.{◌≡◌, ℕ, List, All, ⊎_elim}
-use Rattle.std.specs.Prelude.{◌⊎◌}
+use Rattle.std.proofs.Common.{ℕ, List, ⊎_elim}
 use Rattle.el_logic.specs.declared.types.Interp.{Interp}
 use Rattle.accuse_core.specs.declared.journal.Entry.{Entry}
 use Rattle.accuse_core.specs.Marks.{opening}

@@ -10,7 +10,6 @@ use Rattle.case_file.specs.Cases.{CaseView}
 use Rattle.case_load.specs.Loads.{IsCaseOf}
 use Rattle.case_load.specs.declared.documents.Documents.{Documents}
 use Rattle.case_load.specs.declared.texts.Loaded.{Loaded}
-use Rattle.valid_evidence.specs.Items.{case_loaded}
 use Rattle.valid_evidence.specs.Rows.{IsOnce}
 use Rattle.check_items.specs.Inside.Plain.{IsPlain}
 

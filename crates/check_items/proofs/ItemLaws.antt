@@ -1,7 +1,7 @@
 -- Valid evidence has no item that fails.
-use Rattle.std.proofs.Common.{◌≡◌, ℕ, ◌+◌, List, [], ◌∷◌, ◌++◌, All, Contains, length, take, get_or, ap, sym, subst, ⊎_elim, inl, inr}
-use Rattle.std.specs.Prelude.{Some, slice_get, flat_map}
-use Rattle.std.proofs.lemmas.List.Elements.{All-nil, All-cons, All-head, All-tail, All-append, All-get_or, All-weaker, All-contains, Contains-get_or, Contains-append_left, Contains-append_right}
+use Rattle.std.proofs.Common.{ℕ, ◌+◌, List, [], ◌∷◌, ◌++◌, All, get_or, subst, ⊎_elim}
+use Rattle.std.specs.Prelude.{flat_map}
+use Rattle.std.proofs.lemmas.List.Elements.{All-nil, All-cons, All-head, All-tail, All-append, All-get_or, All-contains, Contains-get_or, Contains-append_left, Contains-append_right}
 use Rattle.std.proofs.lemmas.Option.{slice_get_within, get_or_from_slice_get}
 use Rattle.el_logic.specs.declared.types.Axiom.{Axiom}
 use Rattle.el_logic.specs.declared.types.Interp.{Interp}

@@ -7,23 +7,22 @@ use Rattle.derivation.specs.declared.types.Step.{Step}
 use Rattle.accuse_core.specs.Seen.{EntriesSeen}
 use Rattle.accuse_core.specs.declared.journal.Entry.{Entry}
 use Rattle.accuse_core.specs.Journal.{replayed}
-use Rattle.case_file.specs.Cases.{CaseView, IsCase}
+use Rattle.case_file.specs.Cases.{IsCase}
 use Rattle.case_load.specs.declared.texts.Loaded.{Loaded}
-use Rattle.closed_model.specs.Models.{IsModelFor}
 use Rattle.repaired_table.specs.Repaired.{repaired_text}
 use Rattle.evidence_lines.specs.declared.types.Kind.TheVariants as kind
 use Rattle.evidence_text.specs.declared.types.Removed.{Removed}
 use Rattle.evidence_text.specs.declared.types.Body.{Body}
 use Rattle.evidence_text.specs.declared.types.Body.TheVariants as body
 use Rattle.evidence_text.specs.declared.types.Evidence.{Evidence}
-use Rattle.valid_evidence.specs.Rows.{rows_left, ranks_left, decided_marks}
+use Rattle.valid_evidence.specs.Rows.{rows_left, ranks_left}
 use Rattle.valid_evidence.specs.Items.{case_loaded, IsRepliedJournal, IsPartShownEmpty}
 use Rattle.valid_evidence.specs.Valid.{HasLists, IsValidDiagnosis, IsDiagnosisBody, IsRefusalBody}
 use Rattle.check_items.specs.declared.item.BadItem.{BadItem}
 use Rattle.check_items.specs.declared.item.BadItem.TheVariants as item
 use Rattle.check_items.specs.Bad.{HasOut, HasShown, HasModel, IsBadDiagnosis, IsBadBody, HasDiagnosis, IsOfDiagnosis, IsItemAnswer, HasRefusal, IsOfRefusal, IsBadPart, IsBadPartBody, IsRefusalAnswer}
 use Rattle.check_items.specs.Inside.Plain.{IsPlain}
-use Rattle.check_items.specs.Inside.Tables.{HasItsRows, marks_by}
+use Rattle.check_items.specs.Inside.Tables.{marks_by}
 use Rattle.check_items.specs.Inside.Stages.{IsStepsFault, IsModelBad, IsJournalFault}
 use Rattle.check_items.proofs.TableLaws.{marks_are_decided, case_has_rows}
 

@@ -1,5 +1,5 @@
 -- The first row, step or entry that fails, and sources by the numbers of their rows.
-use Rattle.std.specs.Prelude.{◌≡◌, ℕ, ◌+◌, ◌≤◌, List, take, slice_get, slice_index, Some, All}
+use Rattle.std.specs.Prelude.{◌≡◌, ℕ, ◌+◌, List, take, slice_get, slice_index, Some, All}
 use Rattle.el_logic.specs.declared.types.Part.{Part}
 use Rattle.fact_table.specs.declared.types.Source.{Source}
 use Rattle.derivation.specs.declared.types.BadStep.{BadStep}

@@ -9,7 +9,7 @@ use Rattle.valid_evidence.specs.Rows.{rows_left, ranks_left}
 use Rattle.valid_evidence.specs.Items.{case_loaded, IsOutOf, IsShownEmpty, IsRepliedJournal}
 use Rattle.valid_evidence.specs.Valid.{IsValidDiagnosis}
 use Rattle.check_items.specs.declared.item.BadItem.{BadItem}
-use Rattle.check_items.specs.Bad.{HasRows, HasOut, HasShown, HasModel, IsBadDiagnosis}
+use Rattle.check_items.specs.Bad.{HasRows, HasModel, IsBadDiagnosis}
 use Rattle.check_items.specs.Inside.Tables.{AreRowsOf, AreTablesOf, marks_by}
 use Rattle.check_items.specs.Inside.Stages.{IsStepsFault, IsModelBad, IsJournalFault}
 use Rattle.check_items.proofs.TableLaws.{length-rows_left}

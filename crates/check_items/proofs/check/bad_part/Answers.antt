@@ -1,5 +1,4 @@
-use Rattle.std.proofs.Common.{◌≡◌, ◌∙◌, List, ℕ, [], length, ap, sym, subst, arith}
-use Rattle.derivation.specs.declared.types.Step.{Step}
+use Rattle.std.proofs.Common.{◌∙◌, List, ℕ, [], length, ap, sym, subst, arith}
 use Rattle.derivation.specs.Steps.{IsAnswer}
 use Rattle.valid_evidence.specs.Items.{case_loaded}
 use Rattle.valid_evidence.specs.Rows.{steps_by_rank}

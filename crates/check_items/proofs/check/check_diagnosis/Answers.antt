@@ -10,12 +10,12 @@ pub returns : goal.returns
 returns c =
     let loaded = c.args.loaded.now in
     let out = c.args.out.now in
-    let given = c.as_slice.result.now in
-    let entries = c.as_slice-2.result.now in
+    let given = c.as_slice-removed.result.now in
+    let entries = c.as_slice-entries.result.now in
     let model = c.in-Diagnosis-body.model in
     IfOk-weaker c.bad_diagnosis.result
     (λ (found : Option BadItem). MatchOption found (IsValidDiagnosis loaded out given model entries) (IsBadDiagnosis loaded out given model entries))
     (IsItemAnswer loaded out c.args.evidence.now)
     (λ found h. diagnosis_answer loaded out c.args.evidence.now c.in-Diagnosis-body.removed given model c.in-Diagnosis-body.journal entries c.in-Diagnosis.is c.in-Diagnosis-body.is
-    c.as_slice.ensures c.as_slice-2.ensures c.in-None.ensures found h)
+    c.as_slice-removed.ensures c.as_slice-entries.ensures c.in-None.ensures found h)
     c.bad_diagnosis.ensures

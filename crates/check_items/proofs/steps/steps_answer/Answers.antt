@@ -1,10 +1,9 @@
-use Rattle.std.proofs.Common.{◌≡◌, ◌∙◌, ◌<◌, ◌≤◌, ℕ, List, length, get_or, ap, sym, subst, arith}
+use Rattle.std.proofs.Common.{◌∙◌, ◌<◌, ◌≤◌, ℕ, List, length, get_or, ap, sym, subst, arith}
 use Rattle.std.proofs.lemmas.List.Elements.{All-get_or}
 use Rattle.derivation.specs.declared.types.Step.{Step}
 use Rattle.case_file.specs.Cases.{AreRanksOf}
 use Rattle.evidence_text.specs.declared.types.Removed.{Removed}
-use Rattle.valid_evidence.specs.Rows.{rank_of_row, ranks_left, ranks_up_to, steps_by_rank}
-use Rattle.check_items.specs.Inside.Tables.{row_ranks}
+use Rattle.valid_evidence.specs.Rows.{ranks_up_to, steps_by_rank}
 use Rattle.check_items.specs.Inside.Stages.{IsRowAnswer}
 use Rattle.check_items.proofs.TableLaws.{length-row_ranks, row_has_rank, up_to_are_ranks}
 use Rattle.check_items.proofs.StepsLaws.{row_answer, same_there}
