@@ -2,3 +2,4 @@ pub mod BlockLemmas
 pub mod RunLemmas
 pub mod MarkLemmas
 pub mod RoundLemmas
+pub mod DecideLemmas

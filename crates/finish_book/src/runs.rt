@@ -67,8 +67,21 @@ pub fn levels_of(ranks: u32) -> u32
     }
 }
 
-// How many ranks to test next: few at first, then half of what is left, but so many that either
-// answer leaves fewer than `reach` of them.
+// How many ranks to test while there is time: few at first, twice as many after each yes, and half
+// of what is left once a test said no.
+fn short_length(known: u32, further: u32, ends: bool) -> u32
+    requires { 0 < further }
+    ensures some { 0 < result }
+    ensures within { result ≤ further }
+{
+    if ends {
+        further - further / 2
+    } else {
+        known.saturating_add(1).min(further)
+    }
+}
+
+// How many ranks to test next. Either answer leaves fewer than `reach` of them.
 fn next_length(known: u32, further: u32, ends: bool, reach: u64) -> u32
     requires further { 0 < further }
     requires reach { further + 1 ≤ 2 * reach }
@@ -77,10 +90,11 @@ fn next_length(known: u32, further: u32, ends: bool, reach: u64) -> u32
     ensures if_no { result ≤ reach }
     ensures if_yes { further + 1 ≤ result + reach }
 {
-    let wanted = if ends { further.div_ceil(2) } else { known.saturating_add(1) };
-    let most = u64::from(further).min(reach);
-    let least = (u64::from(further) + 1).saturating_sub(reach);
-    u64::from(wanted).min(most).max(least) as u32
+    let all = u64::from(further);
+    if all > reach {
+        return (all + 1 - reach) as u32;
+    }
+    short_length(known, further, ends)
 }
 
 // A test of the next ranks of the run, from the table of the known ones on.
