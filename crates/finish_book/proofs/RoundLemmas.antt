@@ -21,14 +21,16 @@ stays book = record {
   case_is = refl;
   entries = ([], sym (append-nil book.entries), All-nil (λ (entry : Entry). IsFinishing entry.event));
   few = omega arith;
+  as_many = refl;
   decided = λ rank decided. decided;
 }
 
 -- an event of the kinds that a finish enters, after room was made for it
 pub entered : (event : Event) (before ready after : BookView) → IsFinishing event → ready ≡ record before { spare = 1 } → EntersEvent event ready after
     → ((marks : List Mark) (told : Event) (rank : ℕ) → is_decided (mark_at marks rank) ≡ true → mark_at (outcome marks told).marks rank ≡ mark_at marks rank)
+    → ((marks : List Mark) (told : Event) → length (outcome marks told).marks ≡ length marks)
     → GoesOn 1 before after
-entered event before ready after kind room told keep =
+entered event before ready after kind room told keep count =
     let entries_are : after.entries ≡ before.entries ++ entry_of ready.marks event ∷ [] =
         told.entries ∙ ap (λ (book : BookView). book.entries ++ entry_of ready.marks event ∷ []) room in
     let marks_are : ready.marks ≡ before.marks = ap (λ (book : BookView). book.marks) room in
@@ -37,6 +39,7 @@ entered event before ready after kind room told keep =
       entries = (entry_of ready.marks event ∷ [], entries_are,
           All-cons (λ (entry : Entry). IsFinishing entry.event) (entry_of ready.marks event) [] kind (All-nil (λ (entry : Entry). IsFinishing entry.event)));
       few = omega (arith, ap (λ (l : List Entry). length l) entries_are, length-append before.entries (entry_of ready.marks event ∷ []));
+      as_many = ap (λ (l : List Mark). length l) told.marks ∙ count ready.marks event ∙ ap (λ (l : List Mark). length l) marks_are;
       decided = λ rank decided.
           let there : is_decided (mark_at ready.marks rank) ≡ true = subst (λ (l : List Mark). is_decided (mark_at l rank) ≡ true) (sym marks_are) decided in
           ap (λ (l : List Mark). is_decided (mark_at l rank)) told.marks ∙ ap is_decided (keep ready.marks event rank there) ∙ there;
@@ -50,12 +53,13 @@ and_on {first} {second} {third} one two a b = record {
       b.entries.1 ∙ ap (λ l. l ++ b.entries.0) a.entries.1 ∙ append_assoc first.entries a.entries.0 b.entries.0,
       All-append (λ (entry : Entry). IsFinishing entry.event) a.entries.0 b.entries.0 a.entries.2 b.entries.2);
   few = let here = a.few in let there = b.few in omega arith;
+  as_many = b.as_many ∙ a.as_many;
   decided = λ rank decided. b.decided rank (a.decided rank decided);
 }
 
 -- more entries may be allowed
 pub at_most : {before after : BookView} (few many : ℕ) → few ≤ many → GoesOn few before after → GoesOn many before after
-at_most few many less a = record { case_is = a.case_is; entries = a.entries; few = let here = a.few in omega arith; decided = a.decided }
+at_most few many less a = record { case_is = a.case_is; entries = a.entries; few = let here = a.few in omega arith; as_many = a.as_many; decided = a.decided }
 
 -- nothing was done yet
 pub not_begun : (levels : ℕ) (book : BookView) → IsUnderWay 0 levels 0 book book

@@ -15,10 +15,10 @@ ghost use Rattle.finish_book.specs.Inside.Rounds.{IsAtFront, GoesOn, KeepsRun, R
 use crate::runs::{Run, begun, levels_of, longest_run};
 use accuse_core::{
     asking_leaves_the_marks, blocks_keep_what_is_not_removed, decided_ranks_keep_their_marks,
-    front_is_the_least_undecided_rank, kept_ranks_have_the_mark, kept_ranks_only_grow,
+    events_leave_the_ranks, front_is_the_least_undecided_rank, kept_ranks_have_the_mark, kept_ranks_only_grow,
 };
 use case_file::more_rows_stay_incoherent;
-use closed_model::{ClosedTable, a_closed_table_shows_coherence};
+use closed_model::ClosedTable;
 use commit_book::{Book, FrontAnswer, Taken, books_are_sound, books_hold_a_repair};
 use derivation::Derivation;
 use std::alloc::{AllocError, Global};
@@ -36,6 +36,8 @@ fn take_front(alloc: Global, book: &mut Book) -> Result<Option<Taken>, AllocErro
         (front_of book.old.marks ≡ ranks_of book.old.case) (IsAtFront book.new)) }
 {
     asking_leaves_the_marks();
+    decided_ranks_keep_their_marks();
+    events_leave_the_ranks();
     front_is_the_least_undecided_rank();
     let _ = book.journal();
     book.reserve_turn(alloc)?;
@@ -59,6 +61,7 @@ fn keep_run(
     books_are_sound(book);
     blocks_keep_what_is_not_removed();
     decided_ranks_keep_their_marks();
+    events_leave_the_ranks();
     kept_ranks_only_grow();
     let _ = book.journal();
     if count == 0 {
@@ -85,6 +88,7 @@ fn remove_rank(
     ensures { OnOk result (RemovesRank rank book.old book.new) }
 {
     decided_ranks_keep_their_marks();
+    events_leave_the_ranks();
     let _ = book.journal();
     book.reserve_turn(alloc)?;
     book.tell_no(WORKER, rank, seen, why);
@@ -96,23 +100,25 @@ fn decide_run(alloc: Global, book: &mut Book, run: Run) -> Result<(), AllocError
     requires front { front_of book.old.marks < ranks_of book.old.case }
     requires run { IsRun book.old run }
     requires longest { run.further ≡ 0 }
-    ensures { OnOk result (IsRound book.old book.new) }
+    ensures { OnOk result (IsRound 1 book.old book.new) }
 {
     front_is_the_least_undecided_rank();
     kept_ranks_have_the_mark();
     more_rows_stay_incoherent();
-    a_closed_table_shows_coherence();
-    books_are_sound(book);
+    let _ = run.table.case();
     let _ = book.journal();
+    let _ranks = book.case().ranks();
     let next = book.core().front() + run.known;
     let seen = run.table.ranks().len() as u32;
     keep_run(alloc, book, run.known, run.table)?;
     books_are_sound(book);
     match run.why {
-        None => {}
-        Some(why) => remove_rank(alloc, book, next, seen, why)?,
+        None => Ok(()),
+        Some(why) => {
+            remove_rank(alloc, book, next, seen, why)?;
+            Ok(())
+        }
     }
-    Ok(())
 }
 
 // A round, if a rank is left.
@@ -124,7 +130,8 @@ fn round<L: Ledger>(
 ) -> Result<(), AllocError>
     requires levels { ranks_of book.old.case ≤ 2 ^ levels }
     requires small { levels ≤ 32 }
-    ensures { OnOk result (IsTurn (levels + 1) (steps.new - steps.old) book.old book.new) }
+    ensures turn { OnOk result (IsTurn (levels + 1) (steps.new - steps.old) book.old book.new) }
+    ensures counted { OnOk result (steps.old ≤ steps.new) }
 {
     let ranks = book.case().ranks();
     if book.core().front() == ranks {
@@ -135,7 +142,8 @@ fn round<L: Ledger>(
     };
     let run = begun(book, taken.snapshot);
     let run = longest_run(alloc, book, run, levels, steps)?;
-    decide_run(alloc, book, run)
+    decide_run(alloc, book, run)?;
+    Ok(())
 }
 
 /// Decides what is left of a book, as worker 0 alone. Each round keeps the longest run of ranks

@@ -1,12 +1,12 @@
 //! The longest run of ranks from the front on that is coherent with the kept ranks.
 
-ghost use Rattle.std.specs.Prelude.{◌≡◌, ℕ, ◌+◌, ◌-◌, ◌*◌, ◌^◌, ◌<◌, ◌≤◌, IfOk, OnOk, length};
-ghost use Rattle.accuse_core.specs.Marks.{is_removed, front_of, kept_of, block_of};
+ghost use Rattle.std.specs.Prelude.{◌≡◌, ℕ, ◌+◌, ◌*◌, ◌^◌, ◌<◌, ◌≤◌, ◌++◌, IfOk, OnOk, length};
+ghost use Rattle.accuse_core.specs.Marks.{front_of, kept_of, block_of};
 ghost use Rattle.saturate.specs.Decisions.{IsVerdict};
 ghost use Rattle.commit_book.specs.Books.{IsTableFor, ranks_of};
-ghost use Rattle.finish_book.specs.Inside.Runs.{IsRun, with_run};
+ghost use Rattle.finish_book.specs.Inside.Runs.{IsRun, open_at, with_run};
 
-use accuse_core::{Mark, front_is_the_least_undecided_rank};
+use accuse_core::{Core, Mark, front_is_the_least_undecided_rank};
 use closed_model::ClosedTable;
 use commit_book::{Book, books_are_sound};
 use derivation::Derivation;
@@ -28,12 +28,17 @@ pub struct Run {
     pub why: Option<Derivation>,
 }
 
-fn is_removed(mark: Mark) -> bool
-    ensures { result ≡ is_removed mark }
+// Puts a rank at the end, unless it is removed.
+fn push_open(core: &Core, ranks: &mut Vec<u32>, rank: u32) -> Result<(), AllocError>
+    requires { rank < length core.now }
+    ensures { OnOk result (ranks.new.items ≡ ranks.old.items ++ open_at core.now rank) }
 {
-    match mark {
-        Mark::Removed => true,
-        Mark::Open | Mark::Yes(_) | Mark::Kept => false,
+    match core.mark(rank) {
+        Mark::Removed => Ok(()),
+        Mark::Open | Mark::Yes(_) | Mark::Kept => {
+            ranks.push(rank)?;
+            Ok(())
+        }
     }
 }
 
@@ -47,9 +52,7 @@ fn block(alloc: Global, book: &Book, first: u32, count: u32) -> Result<Vec<u32>,
     let core = book.core();
     let mut ranks = Vec::new(alloc);
     for rank in first..first + count {
-        if !is_removed(core.mark(rank)) {
-            ranks.push(rank)?;
-        }
+        push_open(core, &mut ranks, rank)?;
     }
     Ok(ranks)
 }
@@ -118,7 +121,7 @@ fn test_more<L: Ledger>(
     test_block(alloc, &run.table, ranks.as_slice())
 }
 
-// Narrows the run by one test.
+// Narrows the run by one test, if something is left to test.
 fn narrow<L: Ledger>(
     alloc: Global,
     book: &Book,
@@ -127,25 +130,30 @@ fn narrow<L: Ledger>(
     steps: &mut Steps<L>,
 ) -> Result<(), AllocError>
     requires run { IsRun book.now run.old }
-    requires further { 0 < run.old.further }
     requires reach { run.old.further + 1 ≤ 2 * reach }
     ensures run { OnOk result (IsRun book.now run.new) }
     ensures further { OnOk result (run.new.further + 1 ≤ reach) }
-    ensures counted { OnOk result (steps.new ≡ steps.old + 1) }
+    ensures counted { OnOk result (steps.new ≤ steps.old + 1) }
+    ensures later { OnOk result (steps.old ≤ steps.new) }
 {
+    let _ranks = book.case().ranks();
+    if run.further == 0 {
+        return Ok(());
+    }
     let count = next_length(run.known, run.further, run.why.is_some(), reach);
     match test_more(alloc, book, run, count, steps)? {
         Verdict::Yes(table) => {
             run.known += count;
             run.further -= count;
             run.table = table;
+            Ok(())
         }
         Verdict::No(why) => {
             run.further = count - 1;
             run.why = Some(why);
+            Ok(())
         }
     }
-    Ok(())
 }
 
 /// The run before any test, from the table of the kept ranks on.
@@ -164,6 +172,14 @@ pub fn begun(book: &Book, table: ClosedTable) -> Run
     }
 }
 
+// How many ranks may be left when so many tests may still be made.
+fn reach_of(left: u32) -> u64
+    requires { left ≤ 32 }
+    ensures { result ≡ 2 ^ left }
+{
+    1 << left
+}
+
 /// The longest run, found by halving. A table that a test accepts is the base of the next test, so
 /// nothing is derived twice. `levels` is the number of halvings for the ranks of the case.
 pub fn longest_run<L: Ledger>(
@@ -179,13 +195,11 @@ pub fn longest_run<L: Ledger>(
     ensures run { IfOk result (IsRun book.now) }
     ensures longest { IfOk result (λ run. run.further ≡ 0) }
     ensures few { OnOk result (steps.new ≤ steps.old + (levels + 1)) }
+    ensures later { OnOk result (steps.old ≤ steps.new) }
 {
-    let _ = book.journal();
     let mut run = begun;
     for made in 0..levels + 1 {
-        if run.further > 0 {
-            narrow(alloc, book, &mut run, 1 << (levels - made), steps)?;
-        }
+        narrow(alloc, book, &mut run, reach_of(levels - made), steps)?;
     }
     Ok(run)
 }

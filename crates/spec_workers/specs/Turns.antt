@@ -15,6 +15,13 @@ is_verdict (No worker rank seen) = true
 is_verdict (Yes worker rank seen) = true
 is_verdict (Block worker rank count seen) = false
 
+abbrev pub asks_front : Event → Bool
+asks_front (Take worker rank) = false
+asks_front (TakeFront worker) = true
+asks_front (No worker rank seen) = false
+asks_front (Yes worker rank seen) = false
+asks_front (Block worker rank count seen) = false
+
 -- how many of the entries are verdicts
 abbrev pub verdicts : List Entry → ℕ
 verdicts entries = count_by (λ entry. is_verdict entry.event) entries
@@ -89,6 +96,6 @@ pub record IsWork (worker ranks budget : ℕ) (end : WorkEnd) (drawn : List ℕ)
   pub last : List Entry
   pub entries_are : entries ≡ on_ranks ++ at_front ++ last
   -- the front is asked for only after a number past the last rank was drawn
-  pub drawn_first : past ≡ [] → (at_front ++ last ≡ []) ⊎ IsBrokenOff worker begun last
+  pub drawn_first : past ≡ [] → count_by (λ entry. asks_front entry.event) entries ≡ 0
   pub within : verdicts entries ≤ budget
   pub ends : IsEnd worker budget end (verdicts entries) begun last

@@ -144,6 +144,11 @@ pub fn diagnose<R: Threads + Wait + Sync, G: Gate>(
     requires case { base.case ≡ arc_value case.now }
     requires none { base.ranks ≡ [] }
     requires workers { (1 ≤ workers) × (workers ≤ 16) }
+    ensures case { IfOk result (λ book. book.case ≡ base.case) }
+    ensures decided { IfOk result (λ book. front_of book.marks ≡ ranks_of base.case) }
+    ensures repair { IfOk result (λ book. IsRepair (IsIncoherentFor base.case Part.Both)
+        (ranks_of base.case) (kept_of book.marks)) }
+    ensures share { IfOk result (λ book. IsShared (ranks_of base.case) book.entries) }
 {
     let ranks = case.ranks();
     let book = Book::new(alloc, Arc::try_clone(case)?, base)?;

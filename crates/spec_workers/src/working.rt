@@ -1,13 +1,13 @@
 //! One worker: it draws ranks until none is left, and then takes the front.
 
-ghost use Rattle.std.specs.Prelude.{◌≡◌, ◌+◌, ◌*◌, ◌<◌, ◌≤◌, ℕ, List, ◌++◌, All, IfOk, OnErr};
+ghost use Rattle.std.specs.Prelude.{◌≡◌, ◌≢◌, ◌+◌, ◌*◌, ◌<◌, ◌≤◌, ℕ, List, ◌++◌, All};
 ghost use Rattle.commit_lock.specs.Seats.{IsSeatOf, IsIdle, number};
 ghost use Rattle.commit_lock.specs.Passes as passes;
 ghost use Rattle.commit_lock.specs.Passes.{IsPassOf, drawn};
 ghost use Rattle.commit_book.specs.Books.{ranks_of};
-ghost use Rattle.spec_workers.specs.Inside.Holds.{case_under, GoesOn};
-ghost use Rattle.spec_workers.specs.Inside.Parts.{IsPassKept};
-ghost use Rattle.spec_workers.specs.Turns.{HasWorked};
+ghost use Rattle.accuse_core.specs.declared.journal.Entry.{Entry};
+ghost use Rattle.spec_workers.specs.Inside.Holds.{case_under, GoesOn, AddsOwn};
+ghost use Rattle.spec_workers.specs.Turns.{IsWork};
 
 use crate::turns::{turn_at_front, turn_on};
 use commit_book::Book;
@@ -102,7 +102,7 @@ fn make_turns<R: Wait, G: Gate>(
 /// decided yet it tests against the ranks that are kept by then, and tells what it found. Then it
 /// does the same with the rank at the front, until every rank is decided. Tests run outside the
 /// lock, and the gate is told of each before it begins. A test and what is told of it are one turn;
-/// it makes no more turns than the budget allows.
+/// it makes no more turns than the budget allows. It may wait for the lock.
 pub fn work<R: Wait, G: Gate>(
     rt: &R,
     alloc: Global,
@@ -112,7 +112,18 @@ pub fn work<R: Wait, G: Gate>(
     pass: DrawPass,
     gate: &G,
     budget: u32,
-) -> Worked {
+) -> Worked
+    requires lock { IsSeatOf lock.now seat × IsIdle seat }
+    requires word { IsPassOf draw.now pass }
+    requires not_over { All (λ x. x < passes.ranks_of draw.now) (drawn pass) }
+    requires ranks { passes.ranks_of draw.now ≡ ranks_of (case_under lock.now) }
+    ensures seat { GoesOn lock.now seat result.seat }
+    ensures pass { IsPassOf draw.now result.pass × passes.KeepsPass pass result.pass }
+    ensures work { (drew : List ℕ) × (entries : List Entry)
+        × (drawn result.pass ≡ drawn pass ++ drew) × AddsOwn seat result.seat entries
+        × IsWork (number seat) (passes.ranks_of draw.now) budget result.end drew entries }
+    ensures enough { 2 * passes.ranks_of draw.now + 1 ≤ budget → result.end ≢ WorkEnd.Budget }
+{
     let mut seat = seat;
     let mut pass = pass;
     let end = match make_turns(rt, alloc, lock, &mut seat, draw, &mut pass, gate, budget) {

@@ -19,6 +19,7 @@ pub record GoesOn (most : ℕ) (before after : BookView) : Type 0 where
   pub case_is : after.case ≡ before.case
   pub entries : IsFinishedBy before.entries after.entries
   pub few : length after.entries ≤ length before.entries + most
+  pub as_many : length after.marks ≡ length before.marks
   pub decided : (rank : ℕ) → is_decided (mark_at before.marks rank) ≡ true
       → is_decided (mark_at after.marks rank) ≡ true
 
@@ -38,10 +39,11 @@ pub record RemovesRank (rank : ℕ) (before after : BookView) : Type 0 where
   pub removed : is_decided (mark_at after.marks rank) ≡ true
   pub one_more : removed_of after.marks ≡ removed_of before.marks + 1
 
--- the front moves on. One rank more is removed, or all are decided.
-pub record IsRound (before after : BookView) : Type 0 where
+-- the front moves on. One rank more is removed, or all are decided. At most so many entries are
+-- made, and one for a rank that is removed.
+pub record IsRound (most : ℕ) (before after : BookView) : Type 0 where
   pub more : ℕ
-  pub goes_on : GoesOn (2 + more) before after
+  pub goes_on : GoesOn (most + more) before after
   pub removed : removed_of after.marks ≡ removed_of before.marks + more
   pub one : more ≤ 1
   pub all : more ≡ 0 → front_of after.marks ≡ ranks_of before.case
@@ -50,7 +52,7 @@ pub record IsRound (before after : BookView) : Type 0 where
 -- nothing is done if all are decided; else there is a round of at most so many tests
 pub record IsTurn (most tests : ℕ) (before after : BookView) : Type 0 where
   pub over : front_of before.marks ≡ ranks_of before.case → (after ≡ before) × (tests ≡ 0)
-  pub round : front_of before.marks < ranks_of before.case → IsRound before after × (tests ≤ most)
+  pub round : front_of before.marks < ranks_of before.case → IsRound 2 before after × (tests ≤ most)
 
 -- some rounds: the front has come at least so far
 pub record IsUnderWay (rounds levels made : ℕ) (begun book : BookView) : Type 0 where

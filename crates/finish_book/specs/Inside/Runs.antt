@@ -1,12 +1,17 @@
 -- How far a run from the front is known.
-use Rattle.std.specs.Prelude.{◌≡◌, ℕ, ◌+◌, ◌<◌, ◌≤◌, List, ◌++◌, MatchOption}
+use Rattle.std.specs.Prelude.{◌≡◌, ℕ, ◌+◌, ◌<◌, ◌≤◌, if◌then◌else◌, List, [], ◌∷◌, ◌++◌, MatchOption}
 use Rattle.el_logic.specs.declared.types.Part.{Part}
 use Rattle.case_file.specs.Incoherence.{IsIncoherentFor}
 use Rattle.derivation.specs.declared.types.Step.{Step}
 use Rattle.derivation.specs.Steps.{IsGoodDerivation}
-use Rattle.accuse_core.specs.Marks.{front_of, kept_of, block_of}
+use Rattle.accuse_core.specs.declared.mark.Mark.{Mark}
+use Rattle.accuse_core.specs.Marks.{is_removed, mark_at, front_of, kept_of, block_of}
 use Rattle.commit_book.specs.Books.{BookView, IsTableFor, ranks_of}
 use Rattle.finish_book.specs.declared.runs.Run.{Run}
+
+-- the rank, unless it is removed
+abbrev pub open_at : List Mark → ℕ → List ℕ
+open_at marks rank = if is_removed (mark_at marks rank) then [] else rank ∷ []
 
 -- the kept ranks, followed by those of this number of ranks from the front on that are not removed
 abbrev pub with_run : BookView → ℕ → List ℕ

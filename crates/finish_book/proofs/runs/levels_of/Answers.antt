@@ -1,3 +1,4 @@
+use Rattle.std.proofs.Common.{◌-◌, arith}
 use Rattle.finish_book.proofs.RunLemmas.{powers_in_order}
 use Rattle.finish_book.proofs.runs.levels_of.Goals as goal
 
