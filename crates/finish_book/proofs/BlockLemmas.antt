@@ -38,7 +38,7 @@ module _ (passes : Mark → Bool) where
   all_within first (x ∷ xs) =
       let ranks = ranks_from passes (suc first) xs in
       let later = All-weaker (IsWithin (suc first) (length xs)) (IsWithin first (suc (length xs)))
-          (λ rank h. let low = h.0 in let high = h.1 in (omega arith, omega arith)) ranks (all_within (suc first) xs) in
+      (λ rank h. let low = h.0 in let high = h.1 in (omega arith, omega arith)) ranks (all_within (suc first) xs) in
       elim (passes x) as (λ b. All (IsWithin first (suc (length xs))) (cond b (first ∷ ranks) ranks))
       [ true ↦ All-cons (IsWithin first (suc (length xs))) first ranks (omega arith, omega arith) later | false ↦ later ]
 

@@ -18,8 +18,8 @@ use Rattle.finish_book.proofs.DecideLemmas.{next_is_undecided, why_is_over, enou
 pub ends_last : (book : BookView) (run : Run) → IsRun book run → run.further ≡ 0 → run.why ≡ None → front_of book.marks + run.known ≡ ranks_of book.case
 ends_last book run is_run no_more none =
     let all : front_of book.marks + (run.known + run.further) ≡ ranks_of book.case =
-        subst (λ (why : Option (List Step)). MatchOption why (front_of book.marks + (run.known + run.further) ≡ ranks_of book.case) (IsTooLong book (run.known + run.further + 1)))
-        none is_run.end in omega arith
+    subst (λ (why : Option (List Step)). MatchOption why (front_of book.marks + (run.known + run.further) ≡ ranks_of book.case) (IsTooLong book (run.known + run.further + 1)))
+    none is_run.end in omega arith
 
 -- one rank more is too long
 module _ (book kept : BookView) (run : Run) (why : List Step) (is_run : IsRun book run) (no_more : run.further ≡ 0) (has : run.why ≡ Some why)

@@ -177,7 +177,7 @@ ascending_are_few ranks bound ascends below = ⊎_elim
 -- what is known of a block that is kept from the front on
 module _ (marks : List Mark) (count : ℕ) (inside : front_of marks + count ≤ length marks)
     (within : (rank : ℕ) → front_of marks ≤ rank → rank < front_of marks + count → rank < length marks
-      → mark_at (with_block marks (front_of marks) count) rank ≡ kept_unless_removed (mark_at marks rank))
+    → mark_at (with_block marks (front_of marks) count) rank ≡ kept_unless_removed (mark_at marks rank))
     (before : (rank : ℕ) → rank < front_of marks → mark_at (with_block marks (front_of marks) count) rank ≡ mark_at marks rank)
     (past : (rank : ℕ) → front_of marks + count ≤ rank → mark_at (with_block marks (front_of marks) count) rank ≡ mark_at marks rank) where
   abbrev pub kept : List Mark
@@ -208,16 +208,16 @@ module _ (marks : List Mark) (count : ℕ) (inside : front_of marks + count ≤ 
   pub run_kept : AreKeptBeforeFront marks → length kept ≡ length marks
       → kept_of kept ≡ kept_of marks ++ block_of marks (front_of marks) count
       → (AreKeptBeforeFront kept → is_yes_over (number_kept kept) (mark_at kept (front_of kept)) ≡ true
-        → kept_of (settled kept) ≡ kept_of kept ++ front_of kept ∷ [])
+      → kept_of (settled kept) ≡ kept_of kept ++ front_of kept ∷ [])
       → (rest : List ℕ) × (kept_of (settled kept) ≡ (kept_of marks ++ block_of marks (front_of marks) count) ++ rest)
   run_kept ahead as_many listed waiting =
       let reaches : front_of marks + count ≤ front_of kept = front_reaches kept (front_of marks + count) (omega arith) block_decided in
       let ahead_too : AreKeptBeforeFront kept = λ rank held. ⊎_elim
-          (λ (old : Contains (kept_of marks) rank). let low = ahead rank old in omega arith)
-          (λ (new : Contains (block_of marks (front_of marks) count) rank).
-          let range = All-contains (IsWithin (front_of marks) count) (block_of marks (front_of marks) count) rank (block_within marks (front_of marks) count) new in
-          let high = range.1 in omega arith)
-          (Contains-append_cases (kept_of marks) (block_of marks (front_of marks) count) rank (subst (λ (ranks : List ℕ). Contains ranks rank) listed held)) in ⊎_elim
+      (λ (old : Contains (kept_of marks) rank). let low = ahead rank old in omega arith)
+      (λ (new : Contains (block_of marks (front_of marks) count) rank).
+      let range = All-contains (IsWithin (front_of marks) count) (block_of marks (front_of marks) count) rank (block_within marks (front_of marks) count) new in
+      let high = range.1 in omega arith)
+      (Contains-append_cases (kept_of marks) (block_of marks (front_of marks) count) rank (subst (λ (ranks : List ℕ). Contains ranks rank) listed held)) in ⊎_elim
       (λ (same : settled kept ≡ kept). ([], ap kept_of same ∙ listed ∙ sym (append-nil (kept_of marks ++ block_of marks (front_of marks) count))))
       (λ (s : Settles kept). (front_of kept ∷ [], waiting ahead_too s.waits ∙ ap (λ (ranks : List ℕ). ranks ++ front_of kept ∷ []) listed))
       (settled_cases kept)

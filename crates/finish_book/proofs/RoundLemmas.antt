@@ -32,12 +32,15 @@ pub entered : (event : Event) (before ready after : BookView) → IsFinishing ev
     → GoesOn 1 before after
 entered event before ready after kind room told keep count =
     let entries_are : after.entries ≡ before.entries ++ entry_of ready.marks event ∷ [] =
-        told.entries ∙ ap (λ (book : BookView). book.entries ++ entry_of ready.marks event ∷ []) room in
+    told.entries ∙ ap (λ (book : BookView). book.entries ++ entry_of ready.marks event ∷ []) room in
     let marks_are : ready.marks ≡ before.marks = ap (λ (book : BookView). book.marks) room in
     record {
       case_is = told.case ∙ ap (λ (book : BookView). book.case) room;
-      entries = (entry_of ready.marks event ∷ [], entries_are,
-          All-cons (λ (entry : Entry). IsFinishing entry.event) (entry_of ready.marks event) [] kind (All-nil (λ (entry : Entry). IsFinishing entry.event)));
+      entries = (
+        entry_of ready.marks event ∷ [],
+        entries_are,
+        All-cons (λ (entry : Entry). IsFinishing entry.event) (entry_of ready.marks event) [] kind (All-nil (λ (entry : Entry). IsFinishing entry.event)),
+      );
       few = omega (arith, ap (λ (l : List Entry). length l) entries_are, length-append before.entries (entry_of ready.marks event ∷ []));
       as_many = ap (λ (l : List Mark). length l) told.marks ∙ count ready.marks event ∙ ap (λ (l : List Mark). length l) marks_are;
       decided = λ rank decided.
@@ -49,9 +52,11 @@ entered event before ready after kind room told keep count =
 pub and_on : {first second third : BookView} (one two : ℕ) → GoesOn one first second → GoesOn two second third → GoesOn (one + two) first third
 and_on {first} {second} {third} one two a b = record {
   case_is = b.case_is ∙ a.case_is;
-  entries = (a.entries.0 ++ b.entries.0,
-      b.entries.1 ∙ ap (λ l. l ++ b.entries.0) a.entries.1 ∙ append_assoc first.entries a.entries.0 b.entries.0,
-      All-append (λ (entry : Entry). IsFinishing entry.event) a.entries.0 b.entries.0 a.entries.2 b.entries.2);
+  entries = (
+    a.entries.0 ++ b.entries.0,
+    b.entries.1 ∙ ap (λ l. l ++ b.entries.0) a.entries.1 ∙ append_assoc first.entries a.entries.0 b.entries.0,
+    All-append (λ (entry : Entry). IsFinishing entry.event) a.entries.0 b.entries.0 a.entries.2 b.entries.2,
+  );
   few = let here = a.few in let there = b.few in omega arith;
   as_many = b.as_many ∙ a.as_many;
   decided = λ rank decided. b.decided rank (a.decided rank decided);
@@ -99,9 +104,9 @@ one_more_round rounds levels made tests begun before after inside within way tur
     (λ (left : front_of before.marks ≡ ranks_of before.case → ⊥).
     let round = turn.round (omega arith) in
     let ended : way.ended ≡ 0 = ⊎_elim
-        (λ (is_one : way.ended ≡ 1). absurd (left (way.all is_one ∙ sym ranks)))
-        (λ (is_not : way.ended ≡ 1 → ⊥). let one = way.one in omega arith)
-        (cases_eq way.ended 1) in
+    (λ (is_one : way.ended ≡ 1). absurd (left (way.all is_one ∙ sym ranks)))
+    (λ (is_not : way.ended ≡ 1 → ⊥). let one = way.one in omega arith)
+    (cases_eq way.ended 1) in
     let more = round.0.more in
     let at_most_one = round.0.one in
     record {

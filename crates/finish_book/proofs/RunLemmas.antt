@@ -56,8 +56,8 @@ module _ (marks : List Mark) (front known count : ℕ) where
   run_before kept before =
       let IsBefore : ℕ → Type 0 = λ old. All (λ rank. old < rank) (block_of marks (front + known) count) in
       let next : (old : ℕ) → old < front + known → IsBefore old = λ old low.
-          All-weaker (IsWithin (front + known) count) (λ rank. old < rank) (λ rank h. let first = h.0 in omega arith)
-          (block_of marks (front + known) count) (block_within marks (front + known) count) in
+      All-weaker (IsWithin (front + known) count) (λ rank. old < rank) (λ rank h. let first = h.0 in omega arith)
+      (block_of marks (front + known) count) (block_within marks (front + known) count) in
       All-append IsBefore kept (block_of marks front known)
       (All-weaker (λ old. old < front) IsBefore (λ old low. next old (omega arith)) kept before)
       (All-weaker (IsWithin front known) IsBefore (λ old h. let high = h.1 in next old (omega arith)) (block_of marks front known) (block_within marks front known))

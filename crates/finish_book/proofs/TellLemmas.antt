@@ -56,10 +56,10 @@ pub keeps_run : (book ready after : BookView) (count : ℕ) → ready ≡ record
     → KeepsRun count book after
 keeps_run book ready after count room told inside ahead keep as_many within before past block waiting =
     let marks_are : after.marks ≡ settled (with_block book.marks (front_of book.marks) count) =
-        told.marks ∙ ap (λ (b : BookView). settled (with_block b.marks (front_of b.marks) count)) room in
+    told.marks ∙ ap (λ (b : BookView). settled (with_block b.marks (front_of b.marks) count)) room in
     let front = front_of book.marks in
     let found = run_kept book.marks count inside (within book.marks front count) (before book.marks front count) (past book.marks front count)
-        ahead (as_long book.marks front count) (block book.marks count ahead) (waiting (with_block book.marks front count)) in
+    ahead (as_long book.marks front count) (block book.marks count ahead) (waiting (with_block book.marks front count)) in
     record {
       goes_on = entered (Block 0 (front_of ready.marks) count (number_kept ready.marks)) book ready after refl room told keep as_many;
       run = λ rank low. ap (λ (l : List Mark). is_decided (mark_at l rank)) marks_are
@@ -76,9 +76,9 @@ pub removes_rank : (book ready after : BookView) (rank seen : ℕ) → ready ≡
     → rank < length book.marks → is_decided (mark_at book.marks rank) ≡ false → KeepsDecided → KeepsCount → RemovesRank rank book after
 removes_rank book ready after rank seen room told inside undecided keep as_many =
     let removes : (outcome book.marks (No 0 rank seen)).marks ≡ settled (with_removed book.marks rank) =
-        ap (λ (s : Stepped). s.marks) (cond-false (is_decided (mark_at book.marks rank)) (replies book.marks Late) (changes (with_removed book.marks rank) Marked) undecided) in
+    ap (λ (s : Stepped). s.marks) (cond-false (is_decided (mark_at book.marks rank)) (replies book.marks Late) (changes (with_removed book.marks rank) Marked) undecided) in
     let marks_are : after.marks ≡ settled (with_removed book.marks rank) =
-        told.marks ∙ ap (λ (b : BookView). (outcome b.marks (No 0 rank seen)).marks) room ∙ removes in
+    told.marks ∙ ap (λ (b : BookView). (outcome b.marks (No 0 rank seen)).marks) room ∙ removes in
     record {
       goes_on = entered (No 0 rank seen) book ready after refl room told keep as_many;
       removed = ap (λ (l : List Mark). is_decided (mark_at l rank)) marks_are ∙ removal_decides book.marks rank inside;
@@ -91,7 +91,7 @@ pub last_round : (book after : BookView) (count : ℕ) → KeepsRun count book a
 last_round book after count kept some ends counted within =
     let as_many = kept.goes_on.as_many in
     let reaches : ranks_of book.case ≤ front_of after.marks = front_reaches after.marks (ranks_of book.case) (omega arith)
-        (λ rank low. kept.run rank (omega arith)) in
+    (λ rank low. kept.run rank (omega arith)) in
     record {
       more = 0;
       goes_on = at_most 1 (1 + 0) (omega arith) kept.goes_on;
@@ -108,11 +108,11 @@ one_round book kept after count next there keeps removes some counted =
     let as_many = keeps.goes_on.as_many in
     let as_many_too = removes.goes_on.as_many in
     let moved : front_of book.marks + 1 ≤ front_of after.marks = front_reaches after.marks (front_of book.marks + 1) (omega arith)
-        (λ rank low. ⊎_elim
-        (λ (early : rank < front_of book.marks + count). removes.goes_on.decided rank (keeps.run rank early))
-        (λ (late : front_of book.marks + count ≤ rank).
-        let same : next ≡ rank = omega arith in subst (λ r. is_decided (mark_at after.marks r) ≡ true) same removes.removed)
-        (cases_lt rank (front_of book.marks + count))) in
+    (λ rank low. ⊎_elim
+    (λ (early : rank < front_of book.marks + count). removes.goes_on.decided rank (keeps.run rank early))
+    (λ (late : front_of book.marks + count ≤ rank).
+    let same : next ≡ rank = omega arith in subst (λ r. is_decided (mark_at after.marks r) ≡ true) same removes.removed)
+    (cases_lt rank (front_of book.marks + count))) in
     record {
       more = 1;
       goes_on = and_on 1 1 keeps.goes_on removes.goes_on;

@@ -15,7 +15,8 @@ ghost use Rattle.finish_book.specs.Inside.Rounds.{IsAtFront, GoesOn, KeepsRun, R
 use crate::runs::{Run, begun, levels_of, longest_run};
 use accuse_core::{
     asking_leaves_the_marks, blocks_keep_what_is_not_removed, decided_ranks_keep_their_marks,
-    events_leave_the_ranks, front_is_the_least_undecided_rank, kept_ranks_have_the_mark, kept_ranks_only_grow,
+    events_leave_the_ranks, front_is_the_least_undecided_rank, kept_ranks_have_the_mark,
+    kept_ranks_only_grow,
 };
 use case_file::more_rows_stay_incoherent;
 use closed_model::ClosedTable;
@@ -105,14 +106,20 @@ fn decide_run(alloc: Global, book: &mut Book, run: Run) -> Result<(), AllocError
     front_is_the_least_undecided_rank();
     kept_ranks_have_the_mark();
     more_rows_stay_incoherent();
-    let _ = run.table.case();
+    let Run {
+        known,
+        further: _,
+        table,
+        why,
+    } = run;
+    let _ = table.case();
     let _ = book.journal();
     let _ranks = book.case().ranks();
-    let next = book.core().front() + run.known;
-    let seen = run.table.ranks().len() as u32;
-    keep_run(alloc, book, run.known, run.table)?;
+    let next = book.core().front() + known;
+    let seen = table.ranks().len() as u32;
+    keep_run(alloc, book, known, table)?;
     books_are_sound(book);
-    match run.why {
+    match why {
         None => Ok(()),
         Some(why) => {
             remove_rank(alloc, book, next, seen, why)?;

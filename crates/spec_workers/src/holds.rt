@@ -10,9 +10,7 @@ ghost use Rattle.spec_workers.specs.Inside.Holds.{case_under, GoesOn, AddsOwn, I
 use accuse_core::{
     asking_leaves_the_marks, events_leave_the_ranks, front_is_the_least_undecided_rank,
 };
-use commit_book::{
-    Book, FrontAnswer, TakeAnswer, Taken, books_are_sound, kept_ranks_stay_first,
-};
+use commit_book::{Book, FrontAnswer, TakeAnswer, Taken, books_are_sound, kept_ranks_stay_first};
 use commit_lock::{CommitLock, Seat};
 use saturate::Verdict;
 use std::alloc::{AllocError, Global};

@@ -58,12 +58,10 @@ const WHOLE_PATH: [Entry; 6] = [
     },
 ];
 
-const NOTHING: [Entry; 1] = [
-    Entry {
-        event: Event::TakeFront { worker: 0 },
-        reply: Reply::Done,
-    },
-];
+const NOTHING: [Entry; 1] = [Entry {
+    event: Event::TakeFront { worker: 0 },
+    reply: Reply::Done,
+}];
 
 // A new book of a case, finished.
 fn finished<L: Ledger>(alloc: Global, base: ClosedTable, ledger: Blank) -> Result<Book, Fail>

@@ -91,7 +91,12 @@ fn meets<R: Wait>(rt: &R, alloc: Global, base: &ClosedTable, row: &Row) -> Resul
 #[test]
 fn the_only_worker(rt: HostRuntime) -> Result<(), Fail> {
     let alloc = rt.alloc();
-    let base = base(alloc, "DisjointClasses(:A :B)", "SubClassOf(:X :Y)", WHOLE_ROWS)?;
+    let base = base(
+        alloc,
+        "DisjointClasses(:A :B)",
+        "SubClassOf(:X :Y)",
+        WHOLE_ROWS,
+    )?;
     for row in &ROWS {
         assert!(rt; meets(&rt, alloc, &base, row)?, "budget {}", row.0);
     }

@@ -40,6 +40,6 @@ returns-clause-verdict g c =
     let front : c.front.result ≡ front_of book.marks = c.front.ensures ∙ ap front_of c.core.ensures in
     let inside : front_of book.marks + run.known ≤ length book.marks = omega (arith, c.journal.ensures.book.ranks, c.requires.run.inside) in
     let ranks = ranks_follow book.marks (front_of book.marks) (c.front.result + run.known) run.known c.args.count (kept_of book.marks) run.table.ranks c.as_slice.result.now
-        (ap (λ n. n + run.known) front) c.requires.run.table.ranks_are (c.as_slice.ensures.value ∙ c.in_ok-ranks.ensures) inside in
+    (ap (λ n. n + run.known) front) c.requires.run.table.ranks_are (c.as_slice.ensures.value ∙ c.in_ok-ranks.ensures) inside in
     subst (λ (case : CaseView). IfOk c.test_block.result (IsVerdict case (with_run book (run.known + c.args.count)))) c.requires.run.table.case_is
     (subst (λ (all : List ℕ). IfOk c.test_block.result (IsVerdict run.table.case all)) ranks c.test_block.ensures)
