@@ -110,7 +110,8 @@ fn test_more<L: Ledger>(
 ) -> Result<Verdict, AllocError>
     requires run { IsRun book.now run.now }
     requires count { count ≤ run.now.further }
-    ensures verdict { IfOk result (IsVerdict book.now.case (with_run book.now (run.now.known + count))) }
+    ensures verdict { let ranks = with_run book.now (run.now.known + count) in
+        IfOk result (IsVerdict book.now.case ranks) }
     ensures counted { OnOk result (steps.new ≡ steps.old + 1) }
 {
     books_are_sound(book);

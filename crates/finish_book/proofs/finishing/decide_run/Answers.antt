@@ -46,4 +46,4 @@ returns-in_ok-remove_rank-in-Some c =
     let book = c.args.book.now in
     let front : c.front.result ≡ front_of book.marks = c.front.ensures ∙ ap front_of c.core.ensures in
     one_round book c.keep_run.new.book c.remove_rank.new.book c.args.run.known (c.front.result + c.args.run.known) (ap (λ n. n + c.args.run.known) front)
-    c.in_ok-keep_run.ensures c.in_ok-remove_rank.ensures c.requires.front c.journal.ensures.book.ranks
+    c.in_ok-keep_run.ensures c.in_ok-remove_rank-in-Some.ensures c.requires.front c.journal.ensures.book.ranks
