@@ -1,8 +1,8 @@
 -- Blocks of ranks: those that are not removed.
-use Rattle.std.proofs.Common.{◌≡◌, ℕ, zero, suc, ◌+◌, ◌<◌, ◌≤◌, Bool, true, false, not, cond, List, [], ◌∷◌, ◌++◌, All, Contains, length, get_or, take, drop, refl, ap, sym, subst, ◌∙◌, arith, add-zero, add-one, append-nil}
+use Rattle.std.proofs.Common.{◌≡◌, ℕ, zero, suc, ◌+◌, ◌<◌, ◌≤◌, Bool, true, false, not, cond, List, [], ◌∷◌, ◌++◌, All, length, get_or, take, drop, refl, ap, subst, ◌∙◌, arith, add-zero, add-one, append-nil}
 use Rattle.std.proofs.lemmas.List.{drop-drop, length-take-le, length-take, length-drop}
 use Rattle.std.proofs.Math.Seq.{take-add, drop-cons}
-use Rattle.std.proofs.lemmas.List.Elements.{All-cons, All-nil, All-weaker, All-contains, All-append, Contains-push, Contains-append_right}
+use Rattle.std.proofs.lemmas.List.Elements.{All-cons, All-nil, All-weaker}
 use Rattle.std.specs.List.Sorted.{IsStrictlyIncreasing}
 use Rattle.accuse_core.specs.declared.mark.Mark.{Mark}
 use Rattle.accuse_core.specs.declared.mark.Mark.TheVariants.{Open}

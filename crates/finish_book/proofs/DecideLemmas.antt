@@ -1,12 +1,12 @@
 -- The rank after the longest run.
-use Rattle.std.proofs.Common.{◌≡◌, ℕ, zero, suc, ◌+◌, ◌<◌, ◌≤◌, ◌⊎◌, ⊎_elim, true, false, List, [], ◌∷◌, ◌++◌, Contains, length, take, refl, ap, sym, subst, ◌∙◌, arith}
+use Rattle.std.proofs.Common.{◌≡◌, ℕ, ◌+◌, ◌<◌, ◌≤◌, ⊎_elim, true, false, List, [], ◌∷◌, ◌++◌, Contains, length, take, refl, ap, sym, subst, ◌∙◌, arith}
 use Rattle.std.proofs.Math.Seq.{take-append_seam}
 use Rattle.std.proofs.lemmas.Bool.{cases_Bool, both_ways}
 use Rattle.std.proofs.lemmas.List.{append_assoc, length-append}
 use Rattle.std.proofs.lemmas.List.Elements.{Contains-append_left, Contains-push_cases}
 use Rattle.accuse_core.specs.declared.mark.Mark.{Mark}
 use Rattle.accuse_core.specs.declared.mark.Mark.TheVariants.{Open, Yes, Kept, Removed}
-use Rattle.accuse_core.specs.Marks.{is_removed, is_decided, mark_at, front_of, kept_of, block_of}
+use Rattle.accuse_core.specs.Marks.{is_removed, is_decided, mark_at, kept_of, block_of}
 use Rattle.finish_book.proofs.BlockLemmas.{block_more, block_same}
 
 undecided_by : (mark : Mark) → (mark ≡ Kept → ⊥) → (mark ≡ Removed → ⊥) → is_decided mark ≡ false

@@ -6,7 +6,7 @@ use Rattle.std.proofs.lemmas.List.Sums.{prefix_len_passes, prefix_len_stops, sum
 use Rattle.std.proofs.lemmas.List.Elements.{All-contains, Contains-append_cases}
 use Rattle.accuse_core.specs.declared.mark.Mark.{Mark}
 use Rattle.accuse_core.specs.declared.mark.Mark.TheVariants.{Open, Yes, Kept, Removed}
-use Rattle.accuse_core.specs.Marks.{is_removed, is_decided, is_yes_over, mark_at, front_of, kept_of, number_kept, with_kept, with_removed, with_block, block_of, kept_unless_removed, settled}
+use Rattle.accuse_core.specs.Marks.{is_removed, is_decided, is_yes_over, mark_at, front_of, kept_of, number_kept, with_removed, with_block, block_of, kept_unless_removed, settled}
 use Rattle.accuse_core.specs.Sound.{AreKeptBeforeFront}
 use Rattle.finish_book.specs.Finishing.{removed_of}
 use Rattle.finish_book.proofs.BlockLemmas.{IsWithin, block_within}

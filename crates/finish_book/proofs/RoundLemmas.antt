@@ -1,19 +1,17 @@
 -- Rounds one after another.
-use Rattle.std.proofs.Common.{◌≡◌, ℕ, zero, suc, ◌+◌, ◌-◌, ◌*◌, ◌^◌, ◌<◌, ◌≤◌, ◌⊎◌, ⊎_elim, true, false, List, [], ◌∷◌, ◌++◌, All, Contains, length, take, refl, ap, sym, subst, ◌∙◌, arith, append-nil, add-one}
+use Rattle.std.proofs.Common.{◌≡◌, ℕ, ◌+◌, ◌-◌, ◌*◌, ◌^◌, ◌<◌, ◌≤◌, ⊎_elim, true, List, [], ◌∷◌, ◌++◌, length, refl, ap, sym, subst, ◌∙◌, arith, append-nil, add-one}
 use Rattle.std.proofs.Math.Nat.{mul-le-mul, suc-mul}
 use Rattle.std.proofs.lemmas.Bool.{cases_eq}
 use Rattle.std.proofs.lemmas.List.{append_assoc, length-append}
 use Rattle.std.proofs.lemmas.List.Elements.{All-append, All-nil, All-cons}
-use Rattle.el_logic.specs.declared.types.Part.{Part}
-use Rattle.case_file.specs.Cases.{CaseView}
 use Rattle.accuse_core.specs.declared.mark.Mark.{Mark}
 use Rattle.accuse_core.specs.declared.event.Event.{Event}
 use Rattle.accuse_core.specs.declared.journal.Entry.{Entry}
-use Rattle.accuse_core.specs.Marks.{is_decided, mark_at, front_of, kept_of}
+use Rattle.accuse_core.specs.Marks.{is_decided, mark_at, front_of}
 use Rattle.accuse_core.specs.Events.{outcome}
 use Rattle.commit_book.specs.Books.{BookView, EntersEvent, entry_of, ranks_of}
-use Rattle.finish_book.specs.Finishing.{IsFinishing, IsFinishedBy, removed_of, removed_since, AreFewEntries, AreFewTests}
-use Rattle.finish_book.specs.Inside.Rounds.{GoesOn, IsRound, IsTurn, IsUnderWay}
+use Rattle.finish_book.specs.Finishing.{IsFinishing, removed_of, removed_since, AreFewEntries, AreFewTests}
+use Rattle.finish_book.specs.Inside.Rounds.{GoesOn, IsTurn, IsUnderWay}
 
 -- nothing is entered
 pub stays : (book : BookView) → GoesOn 0 book book

@@ -1,5 +1,5 @@
 -- How a run grows, and how often it can be halved.
-use Rattle.std.proofs.Common.{◌≡◌, ℕ, zero, suc, ◌+◌, ◌-◌, ◌^◌, ◌<◌, ◌≤◌, ◌*◌, ◌⊎◌, ⊎_elim, true, false, cond, List, [], ◌∷◌, ◌++◌, All, Contains, length, ap, sym, subst, ◌∙◌, refl, arith, append-nil}
+use Rattle.std.proofs.Common.{◌≡◌, ℕ, suc, ◌+◌, ◌-◌, ◌^◌, ◌<◌, ◌≤◌, ◌*◌, ⊎_elim, true, false, cond, List, [], ◌∷◌, ◌++◌, All, Contains, length, ap, sym, subst, ◌∙◌, arith, append-nil}
 use Rattle.std.proofs.Math.Nat.{pow-le-pow_right, one-le-pow, pow-suc}
 use Rattle.std.proofs.lemmas.Bool.{cases_lt, cases_Bool}
 use Rattle.std.proofs.lemmas.List.{append_assoc}

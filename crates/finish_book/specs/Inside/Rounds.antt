@@ -1,8 +1,7 @@
 -- A round: the front is asked for, a block is kept, and the rank after it is removed.
-use Rattle.std.specs.Prelude.{◌≡◌, ℕ, ◌+◌, ◌*◌, ◌<◌, ◌≤◌, true, false, List, ◌++◌, length}
-use Rattle.accuse_core.specs.declared.mark.Mark.{Mark}
+use Rattle.std.specs.Prelude.{◌≡◌, ℕ, ◌+◌, ◌*◌, ◌<◌, ◌≤◌, true, List, ◌++◌, length}
 use Rattle.accuse_core.specs.declared.mark.Mark.TheVariants.{Removed}
-use Rattle.accuse_core.specs.Marks.{is_decided, mark_at, front_of, kept_of, number_kept}
+use Rattle.accuse_core.specs.Marks.{is_decided, mark_at, front_of, kept_of}
 use Rattle.commit_book.specs.declared.answers.Taken.{Taken}
 use Rattle.commit_book.specs.Books.{BookView, IsTableFor, ranks_of}
 use Rattle.finish_book.specs.Finishing.{IsFinishedBy, removed_of}

@@ -1,5 +1,5 @@
 -- How far a run from the front is known.
-use Rattle.std.specs.Prelude.{◌≡◌, ℕ, ◌+◌, ◌<◌, ◌≤◌, if◌then◌else◌, List, [], ◌∷◌, ◌++◌, MatchOption}
+use Rattle.std.specs.Prelude.{◌≡◌, ℕ, ◌+◌, ◌≤◌, if◌then◌else◌, List, [], ◌∷◌, ◌++◌, MatchOption}
 use Rattle.el_logic.specs.declared.types.Part.{Part}
 use Rattle.case_file.specs.Incoherence.{IsIncoherentFor}
 use Rattle.derivation.specs.declared.types.Step.{Step}

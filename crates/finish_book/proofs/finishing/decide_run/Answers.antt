@@ -1,4 +1,4 @@
-use Rattle.std.proofs.Common.{◌≡◌, ℕ, ◌+◌, ◌<◌, ◌≤◌, ◌++◌, ◌∷◌, [], false, List, length, take, ap, sym, subst, ◌∙◌, arith}
+use Rattle.std.proofs.Common.{◌≡◌, ℕ, ◌+◌, ◌++◌, ◌∷◌, [], false, List, length, take, ap, sym, subst, ◌∙◌, arith}
 use Rattle.el_logic.specs.declared.types.Part.{Part}
 use Rattle.derivation.specs.Steps.{IsGoodDerivation}
 use Rattle.accuse_core.specs.Marks.{is_decided, mark_at, front_of, kept_of}

@@ -1,10 +1,10 @@
-use Rattle.std.proofs.Common.{◌≡◌, ℕ, ◌+◌, ◌-◌, ◌*◌, ◌<◌, ◌≤◌, List, length, ap, sym, subst, ◌∙◌, rules, arith}
+use Rattle.std.proofs.Common.{◌≡◌, ◌+◌, ◌-◌, ◌*◌, ◌<◌, ◌≤◌, ap, subst, ◌∙◌, rules, arith}
 use Rattle.el_logic.specs.declared.types.Part.{Part}
 use Rattle.case_file.specs.Cases.{CaseView}
 use Rattle.case_file.specs.Incoherence.{IsIncoherentFor}
 use Rattle.conflict_logic.specs.Repair.{IsRepair}
 use Rattle.accuse_core.specs.Marks.{front_of, kept_of}
-use Rattle.commit_book.specs.Books.{BookView, ranks_of}
+use Rattle.commit_book.specs.Books.{ranks_of}
 use Rattle.finish_book.specs.Inside.Rounds.{IsUnderWay}
 use Rattle.finish_book.proofs.RoundLemmas.{and_on, not_begun, one_more_round, few_tests}
 use Rattle.finish_book.proofs.finishing.finish.Goals as goal

@@ -1,4 +1,4 @@
-use Rattle.std.proofs.Common.{◌≡◌, ◌<◌, List, length, ap, ◌∙◌, arith}
+use Rattle.std.proofs.Common.{◌<◌, List, length, ap, ◌∙◌, arith}
 use Rattle.accuse_core.specs.declared.mark.Mark.{Mark}
 use Rattle.finish_book.proofs.RunLemmas.{block_next}
 use Rattle.finish_book.proofs.runs.block.Goals as goal

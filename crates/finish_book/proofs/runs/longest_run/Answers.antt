@@ -1,7 +1,7 @@
-use Rattle.std.proofs.Common.{◌≡◌, ◌+◌, ◌-◌, ◌*◌, ◌^◌, ◌<◌, ◌≤◌, subst, sym, rules, arith}
+use Rattle.std.proofs.Common.{◌+◌, ◌*◌, ◌<◌, ◌≤◌, subst, sym, rules, arith}
 use Rattle.accuse_core.specs.Marks.{front_of}
 use Rattle.commit_book.specs.Books.{ranks_of}
-use Rattle.finish_book.proofs.RunLemmas.{enough_levels, halved, one_fewer, none_left}
+use Rattle.finish_book.proofs.RunLemmas.{enough_levels, halved, one_fewer}
 use Rattle.finish_book.proofs.runs.longest_run.Goals as goal
 
 pub loop-made-init : goal.loop-made-init
