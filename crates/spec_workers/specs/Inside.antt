@@ -1,3 +1,0 @@
--- What only the code of this crate and its proofs cite.
-pub mod Holds
-pub mod Parts
