@@ -1,0 +1,8 @@
+mod LineLaws
+mod TableLaws
+mod StepsLaws
+mod ReplayLaws
+mod CheckLaws
+mod ItemLaws
+mod AnswerLaws
+mod WholeLaws
