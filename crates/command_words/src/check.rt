@@ -52,7 +52,9 @@ pub fn read_check_words(alloc: Global, words: &[Text]) -> Result<CheckWords, Wor
     ensures usage { result ≡ Err WordsFault.Usage
         → (command : CheckWords) → ¬ IsCheck words.now command }
 {
-    let texts = texts_of(alloc, words)?;
+    let Ok(texts) = texts_of(alloc, words) else {
+        return Err(WordsFault::OutOfMemory);
+    };
     let given = match read_given(alloc, Program::Check, texts.as_slice()) {
         Ok(given) => given,
         Err(fault) => return Err(fault),

@@ -1,10 +1,18 @@
 //! The options and the names of the words.
+ghost use Rattle.std.specs.Prelude.{◌≡◌, ◌≢◌, ◌<◌, ◌^◌, [], Err, IfOk, IsUtf8, map};
+ghost use Rattle.std.specs.List.{All};
+ghost use Rattle.clap.specs.Words.{fault_of as clap_fault_of, found_of, kind_of, matches_of as clap_matches_of, rows_of};
+ghost use Rattle.command_words.specs.Words.{Given, Reads, most_of, nothing_given};
+ghost use Rattle.command_words.specs.Inside.Rules.{app};
+ghost use Rattle.command_words.specs.Inside.Found.{HasNoNumber, OptionsIn, names_found, setting_name, value_found};
+ghost use Rattle.command_words.specs.Inside.Seen.{seen};
+
 use crate::command::command;
 use crate::numbers::number_up_to;
 use crate::{Options, Program, Setting, WordsFault};
 use clap::error::ErrorKind;
 use clap::{ArgMatches, Error};
-use std::alloc::Global;
+use std::alloc::{AllocError, Global};
 use text_names::Text;
 
 /// The options and the names of the words.
@@ -15,19 +23,20 @@ pub struct GivenWords<'a> {
 }
 
 /// The words as `clap` takes them.
-pub fn texts_of<'a>(alloc: Global, words: &'a [Text]) -> Result<Vec<&'a str>, WordsFault>
+pub fn texts_of<'a>(alloc: Global, words: &'a [Text]) -> Result<Vec<&'a str>, AllocError>
+    ensures same { IfOk result (λ texts. map (λ text. text.now) texts.items ≡ words.entry.now) }
+    ensures utf8 { IfOk result (λ texts. All IsUtf8 (map (λ text. text.now) texts.items)) }
 {
     let mut texts = Vec::new(alloc);
     for word in words {
-        if texts.push(word.as_str()).is_err() {
-            return Err(WordsFault::OutOfMemory);
-        }
+        texts.push(word.as_str())?;
     }
     Ok(texts)
 }
 
 // Why `clap` refused the words.
 fn fault_of(error: &Error) -> WordsFault
+    ensures { result ≡ WordsFault.Usage → kind_of error.now ≢ ErrorKind.OutOfMemory }
 {
     match error.kind() {
         ErrorKind::OutOfMemory => WordsFault::OutOfMemory,
@@ -41,6 +50,11 @@ fn matches_of<'a>(
     program: Program,
     words: &'a [&'a str],
 ) -> Result<ArgMatches<'a>, WordsFault>
+    ensures ok { let texts = map (λ word. word.now) words.entry.now in IfOk result (λ matches.
+        (clap_fault_of (app program) texts ≡ [])
+        × (rows_of (found_of matches) ≡ clap_matches_of (app program) texts)) }
+    ensures err { result ≡ Err WordsFault.Usage
+        → clap_fault_of (app program) (map (λ word. word.now) words.entry.now) ≢ [] }
 {
     let Ok(command) = command(alloc, program) else {
         return Err(WordsFault::OutOfMemory);
@@ -51,8 +65,11 @@ fn matches_of<'a>(
     }
 }
 
-/// The name and the greatest value of an option.
+// The name and the greatest value of an option.
 fn bounds(setting: Setting) -> (&'static str, u32)
+    ensures name { result.0.now ≡ setting_name setting }
+    ensures most { result.1 ≡ most_of setting }
+    ensures low { result.1 < 2 ^ 20 }
 {
     match setting {
         Setting::Workers => ("workers", 16),
@@ -62,6 +79,9 @@ fn bounds(setting: Setting) -> (&'static str, u32)
 
 // The value of an option, if the words have it.
 fn value_in(matches: &ArgMatches<'_>, setting: Setting) -> Result<Option<u32>, WordsFault>
+    ensures ok { IfOk result (λ value. value_found (found_of matches.now) setting ≡ Some value) }
+    ensures err { result ≡ Err WordsFault.Usage
+        → value_found (found_of matches.now) setting ≡ None }
 {
     let (name, most) = bounds(setting);
     let Some(text) = matches.get_str(name) else {
@@ -74,6 +94,8 @@ fn value_in(matches: &ArgMatches<'_>, setting: Setting) -> Result<Option<u32>, W
 }
 
 fn options_in(matches: &ArgMatches<'_>) -> Result<Options, WordsFault>
+    ensures ok { IfOk result (λ options. OptionsIn (found_of matches.now) options) }
+    ensures err { result ≡ Err WordsFault.Usage → HasNoNumber (found_of matches.now) }
 {
     Ok(Options {
         el_part: matches.get_flag("el-part"),
@@ -84,14 +106,13 @@ fn options_in(matches: &ArgMatches<'_>) -> Result<Options, WordsFault>
 }
 
 // The names, in the order of the words.
-fn names_in<'a>(alloc: Global, matches: &ArgMatches<'a>) -> Result<Vec<&'a str>, WordsFault>
+fn names_in<'a>(alloc: Global, matches: &ArgMatches<'a>) -> Result<Vec<&'a str>, AllocError>
+    ensures { IfOk result (λ names.
+        map (λ name. name.now) names.items ≡ names_found (found_of matches.now)) }
 {
-    let Some(names) = matches.get_strs("names") else {
-        return Ok(Vec::new(alloc));
-    };
-    match names.to_vec(alloc) {
-        Ok(names) => Ok(names),
-        Err(_) => Err(WordsFault::OutOfMemory),
+    match matches.get_strs("names") {
+        Some(names) => names.to_vec(alloc),
+        None => Ok(Vec::new(alloc)),
     }
 }
 
@@ -101,10 +122,22 @@ pub fn read_given<'a>(
     program: Program,
     words: &'a [&'a str],
 ) -> Result<GivenWords<'a>, WordsFault>
+    requires { All IsUtf8 (map (λ word. word.now) words.entry.now) }
+    ensures ok { let texts = map (λ word. word.now) words.entry.now in
+        IfOk result (λ given. Reads program nothing_given texts (seen given)) }
+    ensures err { let texts = map (λ word. word.now) words.entry.now in
+        result ≡ Err WordsFault.Usage → (given : Given) → ¬ Reads program nothing_given texts given }
 {
-    let matches = matches_of(alloc, program, words)?;
-    Ok(GivenWords {
-        options: options_in(&matches)?,
-        names: names_in(alloc, &matches)?,
-    })
+    let matches = match matches_of(alloc, program, words) {
+        Ok(matches) => matches,
+        Err(fault) => return Err(fault),
+    };
+    let options = match options_in(&matches) {
+        Ok(options) => options,
+        Err(fault) => return Err(fault),
+    };
+    let Ok(names) = names_in(alloc, &matches) else {
+        return Err(WordsFault::OutOfMemory);
+    };
+    Ok(GivenWords { options, names })
 }

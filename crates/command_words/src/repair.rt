@@ -46,7 +46,9 @@ pub fn read_repair_words(alloc: Global, words: &[Text]) -> Result<RepairWords, W
     ensures usage { result ≡ Err WordsFault.Usage
         → (command : RepairWords) → ¬ IsRepair words.now command }
 {
-    let texts = texts_of(alloc, words)?;
+    let Ok(texts) = texts_of(alloc, words) else {
+        return Err(WordsFault::OutOfMemory);
+    };
     let given = match read_given(alloc, Program::Repair, texts.as_slice()) {
         Ok(given) => given,
         Err(fault) => return Err(fault),

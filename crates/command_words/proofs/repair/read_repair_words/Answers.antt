@@ -1,4 +1,4 @@
-use Rattle.std.proofs.Common.{◌≡◌, Err, ap}
+use Rattle.std.proofs.Common.{◌≡◌, Err, ap, map}
 use Rattle.std.proofs.lemmas.Result.{IfOk-weaker}
 use Rattle.command_words.specs.declared.types.WordsFault.TheVariants.{Usage}
 use Rattle.command_words.specs.Inside.Seen.{seen}
@@ -8,11 +8,12 @@ use Rattle.command_words.proofs.repair.read_repair_words.Goals as goal
 pub returns-in-Err-clause-usage : goal.returns-in-Err-clause-usage
 returns-in-Err-clause-usage c = λ e command.
     let same : c.in-Err.fault ≡ Usage = cc in
-    unread_is_no_repair c.args.words.now command (c.in-Err.ensures.err (ap (λ fault. Err fault) same))
+    unread_is_no_repair c.args.words.now (map (λ text. text.now) c.in-Ok.texts.items) c.in-Ok.ensures.same command (c.in-Err.ensures.err (ap (λ fault. Err fault) same))
 
 pub returns-clause-ok : goal.returns-clause-ok
 returns-clause-ok c = IfOk-weaker c.repair_of.result _ _
-    (λ command asks. repair_stands c.fronts_are_left_out.ensures.whole c.args.words.now (seen c.in-Ok.given) command c.in-Ok.ensures.ok asks) c.repair_of.ensures.ok
+    (λ command asks. repair_stands c.args.words.now (map (λ text. text.now) c.in-Ok.texts.items) c.in-Ok.ensures.same (seen c.in-Ok-2.given) command c.in-Ok-2.ensures.ok asks) c.repair_of.ensures.ok
 
 pub returns-clause-usage : goal.returns-clause-usage
-returns-clause-usage c = λ e command. unasked_is_no_repair c.args.words.now (seen c.in-Ok.given) command c.in-Ok.ensures.ok (c.repair_of.ensures.err e)
+returns-clause-usage c = λ e command.
+    unasked_is_no_repair c.args.words.now (map (λ text. text.now) c.in-Ok.texts.items) c.in-Ok.ensures.same (seen c.in-Ok-2.given) command c.in-Ok-2.ensures.ok (c.repair_of.ensures.err e)
