@@ -5,4 +5,5 @@ pub mod LexLaws
 pub mod ProgramLaws
 pub mod ReadingLaws
 pub mod FoundLaws
+pub mod ParseLaws
 pub mod CommandLaws
