@@ -41,19 +41,38 @@ fn bare_command<'a>(alloc: Global) -> Command<'a>
         .disable_version_flag(true)
 }
 
+/// The command of `alod`.
+fn repair_command<'a>(alloc: Global) -> Result<Command<'a>, AllocError>
+    ensures { IfOk result (λ command. app_of command ≡ app Program.Repair) }
+{
+    let workers = setting(alloc, "workers");
+    let made = setting(alloc, "made");
+    let el_part = flag(alloc, "el-part");
+    let names = names(alloc);
+    let command = bare_command(alloc).arg(workers)?;
+    let command = command.arg(made)?;
+    let command = command.arg(el_part)?;
+    command.arg(names)
+}
+
+/// The command of `alodcheck`.
+fn check_command<'a>(alloc: Global) -> Result<Command<'a>, AllocError>
+    ensures { IfOk result (λ command. app_of command ≡ app Program.Check) }
+{
+    let refused = flag(alloc, "refused");
+    let el_part = flag(alloc, "el-part");
+    let names = names(alloc);
+    let command = bare_command(alloc).arg(refused)?;
+    let command = command.arg(el_part)?;
+    command.arg(names)
+}
+
 /// The command of a program.
 pub fn command<'a>(alloc: Global, program: Program) -> Result<Command<'a>, AllocError>
     ensures { IfOk result (λ command. app_of command ≡ app program) }
 {
     match program {
-        Program::Repair => bare_command(alloc)
-            .arg(setting(alloc, "workers"))?
-            .arg(setting(alloc, "made"))?
-            .arg(flag(alloc, "el-part"))?
-            .arg(names(alloc)),
-        Program::Check => bare_command(alloc)
-            .arg(flag(alloc, "refused"))?
-            .arg(flag(alloc, "el-part"))?
-            .arg(names(alloc)),
+        Program::Repair => repair_command(alloc),
+        Program::Check => check_command(alloc),
     }
 }
