@@ -122,7 +122,7 @@ pub fn read_given<'a>(
     program: Program,
     words: &'a [&'a str],
 ) -> Result<GivenWords<'a>, WordsFault>
-    requires { All IsUtf8 (map (λ word. word.now) words.entry.now) }
+    requires { All IsUtf8 (map (λ word. word.now) words.now) }
     ensures ok { let texts = map (λ word. word.now) words.entry.now in
         IfOk result (λ given. Reads program nothing_given texts (seen given)) }
     ensures err { let texts = map (λ word. word.now) words.entry.now in

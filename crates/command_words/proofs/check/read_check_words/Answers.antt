@@ -12,8 +12,8 @@ returns-in-Err-clause-usage c = λ e command.
 
 pub returns-clause-ok : goal.returns-clause-ok
 returns-clause-ok c = IfOk-weaker c.check_of.result _ _
-    (λ command asks. check_stands c.args.words.now (map (λ text. text.now) c.in-Ok.texts.items) c.in-Ok.ensures.same (seen c.in-Ok-2.given) command c.in-Ok-2.ensures.ok asks) c.check_of.ensures.ok
+    (λ command asks. check_stands c.args.words.now (map (λ text. text.now) c.in-Ok.texts.items) c.in-Ok.ensures.same (seen c.in-Ok-given.given) command c.in-Ok-given.ensures.ok asks) c.check_of.ensures.ok
 
 pub returns-clause-usage : goal.returns-clause-usage
 returns-clause-usage c = λ e command.
-    unasked_is_no_check c.args.words.now (map (λ text. text.now) c.in-Ok.texts.items) c.in-Ok.ensures.same (seen c.in-Ok-2.given) command c.in-Ok-2.ensures.ok (c.check_of.ensures.err e)
+    unasked_is_no_check c.args.words.now (map (λ text. text.now) c.in-Ok.texts.items) c.in-Ok.ensures.same (seen c.in-Ok-given.given) command c.in-Ok-given.ensures.ok (c.check_of.ensures.err e)

@@ -10,13 +10,13 @@ returns-in-Err-clause-err c = λ e given.
     let same : c.in-Err.fault ≡ Usage = cc in
     fault_unread c.args.program (map (λ word. word.now) c.args.words.now) c.requires (c.in-Err.ensures.err (ap (λ fault. Err fault) same)) given
 
-pub returns-in-Err-2-clause-err : goal.returns-in-Err-2-clause-err
-returns-in-Err-2-clause-err c = λ e given.
-    let same : c.in-Err-2.fault ≡ Usage = cc in
+pub returns-in-Err-options_in-clause-err : goal.returns-in-Err-options_in-clause-err
+returns-in-Err-options_in-clause-err c = λ e given.
+    let same : c.in-Err-options_in.fault ≡ Usage = cc in
     unnumbered_unread c.args.program (map (λ word. word.now) c.args.words.now) c.requires (found_of c.in-Ok.matches) c.in-Ok.ensures.ok.1
-    (c.in-Err-2.ensures.err (ap (λ fault. Err fault) same)) given
+    (c.in-Err-options_in.ensures.err (ap (λ fault. Err fault) same)) given
 
 pub returns-clause-ok : goal.returns-clause-ok
 returns-clause-ok c =
     found_read c.args.program (map (λ word. word.now) c.args.words.now) c.requires (found_of c.in-Ok.matches) c.in-Ok.ensures.ok.1
-    c.in-Ok-2.options (map (λ name. name.now) c.in-Ok-3.names.items) c.in-Ok.ensures.ok.0 c.in-Ok-2.ensures.ok c.in-Ok-3.ensures
+    c.in-Ok-options_in.options (map (λ name. name.now) c.in-Ok-names_in.names.items) c.in-Ok.ensures.ok.0 c.in-Ok-options_in.ensures.ok c.in-Ok-names_in.ensures
