@@ -1,12 +1,12 @@
 -- What `clap` finds in the words is what the definition reads in them.
-use Rattle.std.proofs.Common.{◌≡◌, ◌⊎◌, inl, inr, ◌∙◌, ℕ, suc, Bool, true, false, cond, List, [], ◌∷◌, ◌++◌, length, refl, ap, ap₂, sym, subst, arith, Option, Some, None, option_map, unwrap_or, codes, bytes_eq}
+use Rattle.std.proofs.Common.{◌≡◌, ◌⊎◌, inl, inr, ◌∙◌, ℕ, Bool, true, false, cond, List, [], ◌∷◌, ◌++◌, refl, ap, ap₂, sym, subst, arith, Option, Some, None, option_map, unwrap_or, codes, bytes_eq}
 use Rattle.std.specs.Prelude.{slice_get}
 use Rattle.std.specs.List.{All}
 use Rattle.std.specs.Str.{IsUtf8}
 use Rattle.std.proofs.lemmas.List.Elements.{All-get_or, All-drop}
 use Rattle.clap.specs.Values.{read_as}
-use Rattle.clap.specs.Words.{Row, Text, fault_of, first_value, matched_of, matches_of, one_text, raw_values, rows_of}
-use Rattle.clap.specs.Walk.{all_of, first_of, one_of, idle}
+use Rattle.clap.specs.Words.{Row, Text, fault_of, first_value, matches_of, one_text, rows_of}
+use Rattle.clap.specs.Walk.{one_of, idle}
 use Rattle.clap.proofs.WalkLemmas.{first_value-rows, one_text-rows, raw_values-rows}
 use Rattle.clap.specs.declared.builder.value_parser.Reading.{Reading}
 use Rattle.clap.specs.declared.builder.value_parser.Reading.TheVariants as reading

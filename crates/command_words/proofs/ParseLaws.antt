@@ -1,7 +1,7 @@
 -- What a parse by the command of a program says of the words.
-use Rattle.std.proofs.Common.{◌≡◌, ◌≢◌, ◌⊎◌, inl, inr, ◌∙◌, ◌&&◌, Bool, true, List, [], ◌∷◌, ap, sym, subst, Ok, Err}
+use Rattle.std.proofs.Common.{◌≡◌, ◌≢◌, inl, inr, ◌∙◌, true, List, [], ap, sym, subst, Ok, Err}
 use Rattle.std.proofs.lemmas.Bool.{and_parts}
-use Rattle.clap.specs.Words.{App, HasMatchesOf, IsAmong, FailsBy, HasKind, Kinds, Text, fault_of, found_of, is_simple, kind_of, matches_of, rows_of}
+use Rattle.clap.specs.Words.{App, HasMatchesOf, IsAmong, FailsBy, HasKind, Text, fault_of, found_of, is_simple, kind_of, matches_of, rows_of}
 use Rattle.clap.specs.Simple.{built}
 use Rattle.clap.specs.Faults.{is_free_app, is_simple_and_free}
 use Rattle.clap.specs.declared.error.Error.{Error}

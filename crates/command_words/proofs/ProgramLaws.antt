@@ -1,7 +1,7 @@
 -- The commands of the two programs, and what a walk over all words leaves.
-use Rattle.std.proofs.Common.{◌≡◌, ◌∙◌, ℕ, ◌==◌, ◌&&◌, ◌||◌, Bool, true, false, not, cond, List, [], ◌∷◌, ◌++◌, refl, ap, ap₂, sym, subst, Option, Some, None, option_map, codes, bytes_eq}
+use Rattle.std.proofs.Common.{◌≡◌, ◌∙◌, ℕ, ◌||◌, Bool, true, false, cond, List, [], ◌∷◌, refl, ap, ap₂, sym, subst, Option, Some, None, option_map, codes, bytes_eq}
 use Rattle.std.specs.Prelude.{fold}
-use Rattle.clap.specs.Words.{Row, Rule, Text, fault_of, is_simple, matches_of}
+use Rattle.clap.specs.Words.{Row, Rule, Text, fault_of, matches_of}
 use Rattle.clap.specs.Simple.{App, argument_words, built, names_of}
 use Rattle.clap.specs.Kinds.{Kinds, or_else}
 use Rattle.clap.specs.Faults.{built_fault, check_fault, default_fault, defaults_fault, given_default_fault, is_simple_and_free, level_fault, settle_fault, walk_fault}
@@ -20,7 +20,7 @@ use Rattle.command_words.specs.declared.types.Setting.TheVariants as setting_is
 use Rattle.command_words.specs.Inside.Rules.{app}
 use Rattle.command_words.specs.Inside.Found.{setting_name}
 use Rattle.command_words.proofs.RowLaws.{Hold, Table, is_used, more_held, nothing_held, row_held, with_texts}
-use Rattle.command_words.proofs.WalkLaws.{AllUtf8, Ends, Long, faults, flag, flag_name, held, name_of, names_arg, names_id, nothing, or_none, read, rule_of, setting, shape, standing, state, walk_on, command_ends}
+use Rattle.command_words.proofs.WalkLaws.{AllUtf8, Ends, Long, faults, flag, flag_name, held, names_arg, names_id, nothing, or_none, read, rule_of, setting, shape, standing, state, walk_on, command_ends}
 
 -- the options of a program by their names
 abbrev pub named : Program → Text → Option Long

@@ -1,9 +1,8 @@
 -- The texts that rows hold, by the ids of the rows.
-use Rattle.std.proofs.Common.{◌≡◌, ◌∙◌, ℕ, ◌||◌, Bool, true, false, cond, List, [], ◌∷◌, ◌++◌, length, refl, ap, sym, subst, append_assoc, Option, Some, None, option_map, option_and_then, unwrap_or, is_some, bytes_eq}
+use Rattle.std.proofs.Common.{◌≡◌, ◌∙◌, Bool, true, false, cond, List, [], ◌∷◌, ◌++◌, refl, ap, subst, Option, Some, None, option_map, option_and_then, unwrap_or, is_some, bytes_eq}
 use Rattle.std.specs.Prelude.{find, slice_get}
-use Rattle.std.specs.List.{list_any}
 use Rattle.std.proofs.lemmas.Slice.Eq.{bytes_eq-Decides}
-use Rattle.clap.specs.Walk.{Row, Text, all_of, at_row, first_of, has_row, more_values, one_of, row_text, stronger, with_values, without}
+use Rattle.clap.specs.Walk.{Row, Text, all_of, first_of, has_row, one_of, row_text, with_values, without}
 use Rattle.clap.specs.Values.{read_as}
 use Rattle.clap.specs.declared.builder.value_parser.Reading.{Reading}
 use Rattle.clap.specs.declared.parser.matches.ValueSource.{ValueSource}

@@ -5,7 +5,7 @@ use Rattle.clap.specs.declared.parser.matches.Found.{Found}
 use Rattle.command_words.specs.declared.types.Setting.{Setting}
 use Rattle.command_words.specs.declared.types.Setting.TheVariants as setting
 use Rattle.command_words.specs.declared.types.Options.{Options}
-use Rattle.command_words.specs.Words.{Given, most_of, number_up_to}
+use Rattle.command_words.specs.Words.{most_of, number_up_to}
 
 -- the flag whose text is given
 abbrev pub FlagIs : Option Text → Bool → Type 0

@@ -1,6 +1,5 @@
 use Rattle.std.proofs.Common.{◌≡◌, Err, ap, map}
 use Rattle.command_words.specs.declared.types.WordsFault.TheVariants.{Usage}
-use Rattle.command_words.specs.Inside.Rules.{app}
 use Rattle.clap.specs.Words.{found_of}
 use Rattle.command_words.proofs.FoundLaws.{fault_unread, found_read, unnumbered_unread}
 use Rattle.command_words.proofs.reading.read_given.Goals as goal
