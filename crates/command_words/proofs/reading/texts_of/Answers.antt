@@ -18,6 +18,6 @@ loop-word-preserved c =
     subst (λ (items : List (Bor (List ℕ))). Stand (take (index + 1) words) (map (λ (text : Bor (List ℕ)). text.now) items)) (sym c.in_ok-push.ensures.items)
     (subst (Stand (take (index + 1) words)) (sym (map-append (λ (text : Bor (List ℕ)). text.now) texts (text ∷ []))) (
       ap₂ (λ (done : List (List ℕ)) (next : List ℕ). done ++ next ∷ []) c.loop-word.invariant.0 (c.as_str.ensures.value ∙ c.word-item.is)
-      ∙ sym (take_more words index c.word-item.result c.loop-word-test.true),
+          ∙ sym (take_more words index c.word-item.result c.loop-word-test.true),
       All-push IsUtf8 (map (λ (text : Bor (List ℕ)). text.now) texts) text.now c.loop-word.invariant.1 c.as_str.ensures.utf8,
     ))
