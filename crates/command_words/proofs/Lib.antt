@@ -1,4 +1,9 @@
 pub mod NumberLaws
-pub mod StepLaws
+pub mod RowLaws
+pub mod WalkLaws
+pub mod LexLaws
+pub mod ProgramLaws
 pub mod ReadingLaws
+pub mod FoundLaws
+pub mod ParseLaws
 pub mod CommandLaws

@@ -1,4 +1,5 @@
 -- What only the code of this crate and its proofs cite.
-pub mod Reading
 pub mod Numbers
+pub mod Rules
+pub mod Found
 pub mod Seen

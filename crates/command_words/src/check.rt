@@ -5,14 +5,13 @@ ghost use Rattle.command_words.specs.Inside.Seen.{seen};
 ghost use Rattle.command_words.specs.declared.types.CheckWords.{CheckWords};
 
 use crate::names::{file_names, filled_name};
-use crate::reading::{GivenWords, read_given};
+use crate::reading::{GivenWords, read_given, texts_of};
 use crate::{CheckWords, Program, WordsFault};
-use byte_words::fronts_are_left_out;
 use std::alloc::Global;
 use text_names::Text;
 
 // The three names of a refusal, copied.
-fn refusal_named(alloc: Global, el_part: bool, names: &[&Text]) -> Result<CheckWords, WordsFault>
+fn refusal_named(alloc: Global, el_part: bool, names: &[&str]) -> Result<CheckWords, WordsFault>
     ensures ok { IfOk result (λ command.
         refusal_named el_part (map (λ name. name.now) names.now) ≡ Some command) }
     ensures err { result ≡ Err WordsFault.Usage →
@@ -53,8 +52,10 @@ pub fn read_check_words(alloc: Global, words: &[Text]) -> Result<CheckWords, Wor
     ensures usage { result ≡ Err WordsFault.Usage
         → (command : CheckWords) → ¬ IsCheck words.now command }
 {
-    fronts_are_left_out();
-    let given = match read_given(alloc, Program::Check, words) {
+    let Ok(texts) = texts_of(alloc, words) else {
+        return Err(WordsFault::OutOfMemory);
+    };
+    let given = match read_given(alloc, Program::Check, texts.as_slice()) {
         Ok(given) => given,
         Err(fault) => return Err(fault),
     };

@@ -2,10 +2,10 @@
 #![tactic(auto)]
 
 mod check;
+mod command;
 mod laws;
 mod names;
 mod numbers;
-mod options;
 mod reading;
 mod repair;
 #[cfg(test)]

@@ -7,15 +7,16 @@ use std::alloc::Global;
 use text_names::Text;
 
 /// A copy of a name that is not empty.
-pub fn filled_name(alloc: Global, name: &Text) -> Result<Text, WordsFault>
+pub fn filled_name(alloc: Global, name: &str) -> Result<Text, WordsFault>
     ensures copy { IfOk result (λ copy. copy ≡ name.now) }
     ensures filled { IfOk result (λ copy. is_filled name.now ≡ true) }
     ensures empty { result ≡ Err WordsFault.Usage → is_filled name.now ≡ false }
 {
-    if name.bytes().is_empty() {
+    if name.is_empty() {
         return Err(WordsFault::Usage);
     }
-    match name.copy(alloc) {
+    // A `str` is UTF-8, so that only memory can be short.
+    match Text::of(alloc, name.as_bytes()) {
         Ok(copy) => Ok(copy),
         Err(_) => Err(WordsFault::OutOfMemory),
     }
@@ -24,11 +25,11 @@ pub fn filled_name(alloc: Global, name: &Text) -> Result<Text, WordsFault>
 // Copies of five names that are not empty.
 fn filled_names(
     alloc: Global,
-    left: &Text,
-    right: &Text,
-    map: &Text,
-    out: &Text,
-    evidence: &Text,
+    left: &str,
+    right: &str,
+    map: &str,
+    out: &str,
+    evidence: &str,
 ) -> Result<FileNames, WordsFault>
     ensures ok { let names = left.now ∷ right.now ∷ map.now ∷ out.now ∷ evidence.now ∷ [] in
         IfOk result (λ files. files_named names ≡ Some files) }
@@ -45,7 +46,7 @@ fn filled_names(
 }
 
 /// The five names, copied.
-pub fn file_names(alloc: Global, names: &[&Text]) -> Result<FileNames, WordsFault>
+pub fn file_names(alloc: Global, names: &[&str]) -> Result<FileNames, WordsFault>
     ensures ok { IfOk result (λ files.
         files_named (map (λ name. name.now) names.now) ≡ Some files) }
     ensures err { result ≡ Err WordsFault.Usage →

@@ -1,170 +1,143 @@
-//! The words, one by one.
-ghost use Rattle.std.specs.Prelude.{◌≡◌, ◌≢◌, MatchOption, None, Some, map, OnOk, IfOk, IfErr};
-ghost use Rattle.command_words.specs.Words.{is_plain, Given};
+//! The options and the names of the words.
+ghost use Rattle.std.specs.Prelude.{◌≡◌, ◌≢◌, ◌<◌, ◌^◌, [], Err, IfOk, IsUtf8, map};
+ghost use Rattle.std.specs.List.{All};
+ghost use Rattle.clap.specs.Words.{fault_of as clap_fault_of, found_of, kind_of, matches_of as clap_matches_of, rows_of};
+ghost use Rattle.command_words.specs.Words.{Given, Reads, most_of, nothing_given};
+ghost use Rattle.command_words.specs.Inside.Rules.{app};
+ghost use Rattle.command_words.specs.Inside.Found.{HasNoNumber, OptionsIn, names_found, setting_name, value_found};
 ghost use Rattle.command_words.specs.Inside.Seen.{seen};
-ghost use Rattle.command_words.specs.Inside.Reading.{flag_step, opening_step, value_step, joined_step, name_step, joined_or_name, setting_or_other, free_step, step_of, given_of};
 
+use crate::command::command;
 use crate::numbers::number_up_to;
-use crate::options::{flag_named, has_flag, has_setting, most_of, setting_named, value_in};
-use crate::{Flag, Options, Program, Setting, WordsFault};
-use std::alloc::Global;
+use crate::{Options, Program, Setting, WordsFault};
+use clap::error::ErrorKind;
+use clap::{ArgMatches, Error};
+use std::alloc::{AllocError, Global};
 use text_names::Text;
-
-/// What the next word is to be.
-#[derive(Clone, Copy, Debug, PartialEq, Eq)]
-pub enum Waits {
-    /// An option or a name.
-    Nothing,
-    /// The value of this option.
-    Value(Setting),
-    /// A name, as all words after `--`.
-    Names,
-}
-
-/// What a word is.
-#[derive(Clone, Copy, Debug, PartialEq, Eq)]
-pub enum Step {
-    Name,
-    /// An option, its value or `--`. These options are read then, and this is next.
-    Next(Options, Waits),
-    Refused,
-}
-
-fn is_plain(word: &[u8]) -> bool
-    ensures { result ≡ is_plain word.now }
-{
-    match word {
-        [] => true,
-        [first, rest @ ..] => *first != b'-' || rest.is_empty(),
-    }
-}
-
-fn flag_step(program: Program, options: Options, flag: Flag) -> Step
-    ensures { result ≡ flag_step program options flag }
-{
-    if has_flag(program, flag) && !options.has(flag) {
-        Step::Next(options.with_flag(flag), Waits::Nothing)
-    } else {
-        Step::Refused
-    }
-}
-
-fn opening_step(program: Program, options: Options, setting: Setting) -> Step
-    ensures { result ≡ opening_step program options setting }
-{
-    if has_setting(program, setting) {
-        Step::Next(options, Waits::Value(setting))
-    } else {
-        Step::Refused
-    }
-}
-
-fn value_step(options: Options, setting: Setting, text: &[u8]) -> Step
-    ensures { result ≡ value_step options setting text.now }
-{
-    if options.value(setting).is_some() {
-        return Step::Refused;
-    }
-    match number_up_to(most_of(setting), text) {
-        Some(value) => Step::Next(options.with_setting(setting, value), Waits::Nothing),
-        None => Step::Refused,
-    }
-}
-
-fn joined_step(program: Program, options: Options, setting: Setting, text: &[u8]) -> Step
-    ensures { result ≡ joined_step program options setting text.now }
-{
-    if has_setting(program, setting) {
-        value_step(options, setting, text)
-    } else {
-        Step::Refused
-    }
-}
-
-fn name_step(word: &[u8]) -> Step
-    ensures { result ≡ name_step word.now }
-{
-    if is_plain(word) {
-        Step::Name
-    } else {
-        Step::Refused
-    }
-}
-
-// An option with its value after an equals sign, or a name.
-fn joined_or_name(program: Program, options: Options, word: &[u8]) -> Step
-    ensures { result ≡ setting_or_other program options word.now None }
-{
-    if let Some(text) = value_in(Setting::Workers, word) {
-        return joined_step(program, options, Setting::Workers, text);
-    }
-    if let Some(text) = value_in(Setting::Made, word) {
-        return joined_step(program, options, Setting::Made, text);
-    }
-    name_step(word)
-}
-
-// A word before `--`, where no option waits for its value.
-fn free_step(program: Program, options: Options, word: &[u8]) -> Step
-    ensures { result ≡ free_step program options word.now }
-{
-    if word == b"--".as_slice() {
-        return Step::Next(options, Waits::Names);
-    }
-    if let Some(flag) = flag_named(word) {
-        return flag_step(program, options, flag);
-    }
-    if let Some(setting) = setting_named(word) {
-        return opening_step(program, options, setting);
-    }
-    joined_or_name(program, options, word)
-}
-
-fn step_of(program: Program, options: Options, waits: Waits, word: &[u8]) -> Step
-    ensures { result ≡ step_of program options waits word.now }
-{
-    match waits {
-        Waits::Nothing => free_step(program, options, word),
-        Waits::Value(setting) => value_step(options, setting, word),
-        Waits::Names => Step::Name,
-    }
-}
 
 /// The options and the names of the words.
 #[derive(Drop)]
 pub struct GivenWords<'a> {
     pub options: Options,
-    pub names: Vec<&'a Text>,
+    pub names: Vec<&'a str>,
 }
 
-/// Reads the words from left to right.
+/// The words as `clap` takes them.
+pub fn texts_of<'a>(alloc: Global, words: &'a [Text]) -> Result<Vec<&'a str>, AllocError>
+    ensures same { IfOk result (λ texts. map (λ text. text.now) texts.items ≡ words.entry.now) }
+    ensures utf8 { IfOk result (λ texts. All IsUtf8 (map (λ text. text.now) texts.items)) }
+{
+    let mut texts = Vec::new(alloc);
+    for word in words {
+        texts.push(word.as_str())?;
+    }
+    Ok(texts)
+}
+
+// Why `clap` refused the words.
+fn fault_of(error: &Error) -> WordsFault
+    ensures { result ≡ WordsFault.Usage → kind_of error.now ≢ ErrorKind.OutOfMemory }
+{
+    match error.kind() {
+        ErrorKind::OutOfMemory => WordsFault::OutOfMemory,
+        _ => WordsFault::Usage,
+    }
+}
+
+// What `clap` finds in the words.
+fn matches_of<'a>(
+    alloc: Global,
+    program: Program,
+    words: &'a [&'a str],
+) -> Result<ArgMatches<'a>, WordsFault>
+    ensures ok { let texts = map (λ word. word.now) words.entry.now in IfOk result (λ matches.
+        (clap_fault_of (app program) texts ≡ [])
+        × (rows_of (found_of matches) ≡ clap_matches_of (app program) texts)) }
+    ensures err { result ≡ Err WordsFault.Usage
+        → clap_fault_of (app program) (map (λ word. word.now) words.entry.now) ≢ [] }
+{
+    let Ok(command) = command(alloc, program) else {
+        return Err(WordsFault::OutOfMemory);
+    };
+    match command.try_get_matches_from(words) {
+        Ok(matches) => Ok(matches),
+        Err(error) => Err(fault_of(&error)),
+    }
+}
+
+// The name and the greatest value of an option.
+fn bounds(setting: Setting) -> (&'static str, u32)
+    ensures name { result.0.now ≡ setting_name setting }
+    ensures most { result.1 ≡ most_of setting }
+    ensures low { result.1 < 2 ^ 20 }
+{
+    match setting {
+        Setting::Workers => ("workers", 16),
+        Setting::Made => ("made", 10_000),
+    }
+}
+
+// The value of an option, if the words have it.
+fn value_in(matches: &ArgMatches<'_>, setting: Setting) -> Result<Option<u32>, WordsFault>
+    ensures ok { IfOk result (λ value. value_found (found_of matches.now) setting ≡ Some value) }
+    ensures err { result ≡ Err WordsFault.Usage
+        → value_found (found_of matches.now) setting ≡ None }
+{
+    let (name, most) = bounds(setting);
+    let Some(text) = matches.get_str(name) else {
+        return Ok(None);
+    };
+    match number_up_to(most, text.as_bytes()) {
+        Some(value) => Ok(Some(value)),
+        None => Err(WordsFault::Usage),
+    }
+}
+
+fn options_in(matches: &ArgMatches<'_>) -> Result<Options, WordsFault>
+    ensures ok { IfOk result (λ options. OptionsIn (found_of matches.now) options) }
+    ensures err { result ≡ Err WordsFault.Usage → HasNoNumber (found_of matches.now) }
+{
+    Ok(Options {
+        el_part: matches.get_flag("el-part"),
+        refused: matches.get_flag("refused"),
+        workers: value_in(matches, Setting::Workers)?,
+        made: value_in(matches, Setting::Made)?,
+    })
+}
+
+// The names, in the order of the words.
+fn names_in<'a>(alloc: Global, matches: &ArgMatches<'a>) -> Result<Vec<&'a str>, AllocError>
+    ensures { IfOk result (λ names.
+        map (λ name. name.now) names.items ≡ names_found (found_of matches.now)) }
+{
+    match matches.get_strs("names") {
+        Some(names) => names.to_vec(alloc),
+        None => Ok(Vec::new(alloc)),
+    }
+}
+
+/// Reads the words.
 pub fn read_given<'a>(
     alloc: Global,
     program: Program,
-    words: &'a [Text],
+    words: &'a [&'a str],
 ) -> Result<GivenWords<'a>, WordsFault>
-    ensures ok { IfOk result (λ given. given_of program words.entry.now ≡ Some (seen given)) }
-    ensures err { result ≡ Err WordsFault.Usage → given_of program words.entry.now ≡ None }
+    requires { All IsUtf8 (map (λ word. word.now) words.now) }
+    ensures ok { let texts = map (λ word. word.now) words.entry.now in
+        IfOk result (λ given. Reads program nothing_given texts (seen given)) }
+    ensures err { let texts = map (λ word. word.now) words.entry.now in
+        result ≡ Err WordsFault.Usage → (given : Given) → ¬ Reads program nothing_given texts given }
 {
-    let mut options = Options::none();
-    let mut waits = Waits::Nothing;
-    let mut names = Vec::new(alloc);
-    for word in words {
-        match step_of(program, options, waits, word.bytes()) {
-            Step::Name => {
-                if names.push(word).is_err() {
-                    return Err(WordsFault::OutOfMemory);
-                }
-            }
-            Step::Next(next_options, next_waits) => {
-                options = next_options;
-                waits = next_waits;
-            }
-            Step::Refused => return Err(WordsFault::Usage),
-        }
-    }
-    match waits {
-        Waits::Value(_) => Err(WordsFault::Usage),
-        _ => Ok(GivenWords { options, names }),
-    }
+    let matches = match matches_of(alloc, program, words) {
+        Ok(matches) => matches,
+        Err(fault) => return Err(fault),
+    };
+    let options = match options_in(&matches) {
+        Ok(options) => options,
+        Err(fault) => return Err(fault),
+    };
+    let Ok(names) = names_in(alloc, &matches) else {
+        return Err(WordsFault::OutOfMemory);
+    };
+    Ok(GivenWords { options, names })
 }

@@ -5,9 +5,8 @@ ghost use Rattle.command_words.specs.Inside.Seen.{seen};
 ghost use Rattle.command_words.specs.declared.types.RepairWords.{RepairWords};
 
 use crate::names::{file_names, has_own_outputs};
-use crate::reading::{GivenWords, read_given};
+use crate::reading::{GivenWords, read_given, texts_of};
 use crate::{Program, RepairWords, WordsFault};
-use byte_words::fronts_are_left_out;
 use std::alloc::Global;
 use text_names::Text;
 
@@ -47,8 +46,10 @@ pub fn read_repair_words(alloc: Global, words: &[Text]) -> Result<RepairWords, W
     ensures usage { result ≡ Err WordsFault.Usage
         → (command : RepairWords) → ¬ IsRepair words.now command }
 {
-    fronts_are_left_out();
-    let given = match read_given(alloc, Program::Repair, words) {
+    let Ok(texts) = texts_of(alloc, words) else {
+        return Err(WordsFault::OutOfMemory);
+    };
+    let given = match read_given(alloc, Program::Repair, texts.as_slice()) {
         Ok(given) => given,
         Err(fault) => return Err(fault),
     };

@@ -7,7 +7,7 @@ use text_names::Text;
 // What a line of words asks for, or `usage`.
 type Case = (&'static str, &'static str);
 
-static REPAIR: [Case; 52] = [
+static REPAIR: [Case; 60] = [
     ("a b c d e", "files 4 a b c d e"),
     ("--workers 2 a b c d e", "files 2 a b c d e"),
     ("a b --workers=16 c d e", "files 16 a b c d e"),
@@ -32,6 +32,7 @@ static REPAIR: [Case; 52] = [
     ),
     ("- b c d e", "files 4 - b c d e"),
     ("a a a d e", "files 4 a a a d e"),
+    ("help é c d e", "files 4 help é c d e"),
     ("", "usage"),
     ("a b c d", "usage"),
     ("a b c d e f", "usage"),
@@ -65,6 +66,13 @@ static REPAIR: [Case; 52] = [
     ("--made 1 --el-part", "usage"),
     ("--refused a b c d e", "usage"),
     ("-w a b c d e", "usage"),
+    ("-é a b c d e", "usage"),
+    ("--- a b c d e", "usage"),
+    ("--=1 a b c d e", "usage"),
+    ("--work=1 a b c d e", "usage"),
+    ("--el-part= a b c d e", "usage"),
+    ("--workers=1=1 a b c d e", "usage"),
+    ("--workers --workers 1 a b c d e", "usage"),
     ("--help", "usage"),
 ];
 
