@@ -29,10 +29,10 @@ use case_load::{LoadFault, Loaded, assemble};
 use closed_model::ClosedTable;
 use fact_table::FactsByPlace;
 use ofn_axiom::Mode;
-use saturate::{StartFault, Verdict, start, test};
+use saturate::{Verdict, start, test};
 use std::alloc::{AllocError, Global};
+use std::fs;
 use std::time::Instant;
-use std::{env, fs};
 use text_names::Limits;
 
 // The most kilobytes that the process has held so far.
@@ -98,40 +98,47 @@ fn print(rt: &HostRuntime, what: &str, begin: Instant, count: usize) -> Result<(
     Ok(())
 }
 
-fn run(rt: &HostRuntime, left: &str, right: &str, map: &str) -> Result<()> {
-    let alloc = rt.alloc();
+// The case of the files in this folder. The texts are given up.
+fn read_case(rt: &HostRuntime) -> Result<Loaded> {
+    let left = fs::read(rt, "left.ofn")?;
+    let right = fs::read(rt, "right.ofn")?;
+    let map = fs::read(rt, "map.sssom.tsv")?;
+    let loaded = made(
+        rt.alloc(),
+        left.as_slice(),
+        right.as_slice(),
+        map.as_slice(),
+    )?;
+    Ok(loaded)
+}
+
+fn read(rt: &HostRuntime) -> Result<Loaded> {
     let begin = Instant::now(rt)?;
-    let left = fs::read(rt, left)?;
-    let right = fs::read(rt, right)?;
-    let map = fs::read(rt, map)?;
-    let loaded = made(alloc, left.as_slice(), right.as_slice(), map.as_slice())?;
+    let loaded = read_case(rt)?;
     print(rt, "read", begin, loaded.case.store().nodes() as usize)?;
+    Ok(loaded)
+}
+
+fn started(rt: &HostRuntime, loaded: &Loaded) -> Result<ClosedTable> {
     let begin = Instant::now(rt)?;
-    let table = match start(alloc, &loaded.case) {
-        Ok(table) => table,
-        Err(fault) => return Err(fault.into()),
-    };
+    let table = start(rt.alloc(), &loaded.case)?;
     print(rt, "start", begin, table.base().len())?;
+    Ok(table)
+}
+
+fn tested_all(rt: &HostRuntime, first: ClosedTable) -> Result<ClosedTable> {
     let begin = Instant::now(rt)?;
-    let table = chosen(alloc, table)?;
+    let table = chosen(rt.alloc(), first)?;
     print(rt, "test", begin, table.base().len())?;
-    println!(rt; "kept 0 0 {}", table.ranks().len())?;
-    Ok(())
+    Ok(table)
 }
 
 fn main(rt: HostRuntime) -> Result<()> {
-    let mut words = env::args(&rt)?;
-    let _ = words.next();
-    let Some(left) = words.next() else {
-        return Ok(());
-    };
-    let Some(right) = words.next() else {
-        return Ok(());
-    };
-    let Some(map) = words.next() else {
-        return Ok(());
-    };
-    run(&rt, left.as_str(), right.as_str(), map.as_str())
+    let loaded = read(&rt)?;
+    let first = started(&rt, &loaded)?;
+    let table = tested_all(&rt, first)?;
+    println!(&rt; "kept 0 0 {}", table.ranks().len())?;
+    Ok(())
 }
 """
 
@@ -158,9 +165,9 @@ def build(root):
     return program
 
 
-def measured(words):
-    """What a program printed on both outputs, and the most bytes that it held."""
-    run = subprocess.Popen(words, stdout=subprocess.PIPE, stderr=subprocess.PIPE, text=True)
+def measured(words, case):
+    """What a program printed on both outputs in the folder of a case, and the most bytes that it held."""
+    run = subprocess.Popen(words, cwd=case, stdout=subprocess.PIPE, stderr=subprocess.PIPE, text=True)
     out, err = run.stdout.read(), run.stderr.read()
     _, status, usage = os.wait4(run.pid, 0)
     if os.waitstatus_to_exitcode(status) != 0:
@@ -168,16 +175,16 @@ def measured(words):
     return out, err, usage.ru_maxrss * 1024
 
 
-def ours(program, files):
+def ours(program, case):
     """Seconds, facts and peak memory of reading, starting and testing."""
-    out, _, _ = measured([program, *files])
+    out, _, _ = measured([program], case)
     rows = [line.split() for line in out.splitlines()]
     return {what: (int(took) / 1e6, int(count), int(peak) * 1024) for what, took, peak, count in rows}
 
 
-def theirs(program, files):
+def theirs(program, case):
     """The same of the plain program. Its seconds count from its start."""
-    _, err, peak = measured([program, "--closed", *files])
+    _, err, peak = measured([program, "--closed", "left.ofn", "right.ofn", "map.sssom.tsv"], case)
     times = {what: float(time) for what, time in re.findall(r"^(\w+) +([\d.]+) s", err, re.MULTILINE)}
     facts = [int(count) for count in re.findall(r"facts (\d+)", err)]
     return {
@@ -206,8 +213,7 @@ def ratio(one, other):
 
 
 def compare(program, plain, case):
-    files = [str(case / name) for name in ("left.ofn", "right.ofn", "map.sssom.tsv")]
-    runs = [(ours(program, files), theirs(plain, files)) for _ in range(RUNS)]
+    runs = [(ours(program, case), theirs(plain, case)) for _ in range(RUNS)]
     one, other = best([run[0] for run in runs]), best([run[1] for run in runs])
     print(told("this", one), told("plain", other), ratio(one, other), sep="\n", flush=True)
 
