@@ -1,6 +1,6 @@
 -- What a check answers, from the cause of its answer.
 use Rattle.std.proofs.Common.{◌≡◌, ◌⊎◌, ◌++◌, List, ℕ, inl, inr, refl, sym, ◌∙◌, ap, subst, ⊎_elim}
-use Rattle.std.specs.Prelude.{Option, Some, None, IfSome}
+use Rattle.std.specs.Prelude.{Option, Some, None, IfSome, string_bytes}
 use Rattle.byte_words.specs.Faults.{OrOutOfMemory}
 use Rattle.text_names.specs.declared.limits.Limits.{Limits}
 use Rattle.io_edge.specs.Outside.{Files}
@@ -19,7 +19,7 @@ use Rattle.check_run.specs.declared.status.CheckStatus.TheVariants as answer
 use Rattle.check_run.specs.declared.verdict.Verdict.{Verdict}
 use Rattle.check_run.specs.Files.{IsAsked, IsReachedFor}
 use Rattle.check_run.specs.Lines.{check_status_of, verdict_line}
-use Rattle.check_run.specs.Verdicts.{IsBadFor, IsValidFor, IsVerdict}
+use Rattle.check_run.specs.Verdicts.{IsBadFor, IsValidFor, IsVerdictOn}
 use Rattle.check_run.specs.Check.{Checked, HasNoFault, IsCheckFault, IsChecked, IsNoOrMemory, IsOrMemory, IsOrReadStop}
 use Rattle.check_run.specs.Inside.Stages.{IsCause, IsJudged, IsTold}
 use Rattle.check_run.proofs.FaultLaws.{OneAnswer, IsNoRead, case_or_fault, one_check_fault, same_case, same_reading}
@@ -146,21 +146,29 @@ module _ (laws : OneAnswer) (no_item : NoItemFails) (steps_law : OneStepsAnswer)
     abbrev c : Checked run command limits
     c = record { texts = judged.texts; loaded = judged.loaded; read = judged.read }
 
-    abbrev line : List ℕ
-    line = verdict_line judged.loaded.names.classes.names verdict.item
+    -- the line that was put is that of the verdict
+    abbrev Tells : List ℕ → CheckStatus → Type 0
+    Tells line s = IsTold run.output run.output_after verdict.item line s
 
-    told_cause : (s : CheckStatus) → IsTold run.output run.output_after verdict.item line s → IsCause run command limits s
-    told_cause answer.Yes h =
-        (c, subst (IsVerdict command judged.loaded judged.texts) h.0 judged.item,
-        subst (λ (v : Option BadItem). IfSome run.output.got (λ got. run.output_after.got ≡ Some (got ++ verdict_line judged.loaded.names.classes.names v))) h.0 h.1)
-    told_cause (answer.No item) h =
-        (c, subst (IsVerdict command judged.loaded judged.texts) h.0 judged.item,
-        subst (λ (v : Option BadItem). IfSome run.output.got (λ got. run.output_after.got ≡ Some (got ++ verdict_line judged.loaded.names.classes.names v))) h.0 h.1)
+    abbrev line_of : Option BadItem → List ℕ
+    line_of item = verdict_line judged.loaded.names.classes.names item
+
+    -- a verdict whose line was put
+    put_whole : (item : Option BadItem) → verdict.item ≡ item → IfSome run.output.got (λ got. run.output_after.got ≡ Some (got ++ line_of verdict.item))
+        → IsVerdictOn command judged.loaded judged.texts item × IfSome run.output.got (λ got. run.output_after.got ≡ Some (got ++ line_of item))
+    put_whole item is h = (
+      subst (IsVerdictOn command judged.loaded judged.texts) is judged.item,
+      subst (λ (v : Option BadItem). IfSome run.output.got (λ got. run.output_after.got ≡ Some (got ++ line_of v))) is h,
+    )
+
+    told_cause : (s : CheckStatus) → Tells (line_of verdict.item) s → IsCause run command limits s
+    told_cause answer.Yes h = let put = put_whole None h.0 h.1 in (c, put.0, put.1)
+    told_cause (answer.No item) h = let put = put_whole (Some item) h.0 h.1 in (c, put.0, put.1)
     told_cause (answer.WriteFault target.Output) h = (refl, h.0, (c, verdict.item, judged.item, h.1))
     told_cause (answer.WriteFault target.Out) h = absurd h
     told_cause (answer.WriteFault target.Evidence) h = absurd h
     told_cause answer.OutOfMemory h = tt
     told_cause _ h = absurd h
 
-    pub checked_verdict : (s : CheckStatus) → IsTold run.output run.output_after verdict.item line s → IsChecked run command limits s
-    checked_verdict s h = checked_by s (told_cause s h)
+    pub checked_verdict : (s : CheckStatus) → Tells (string_bytes verdict.line) s → IsChecked run command limits s
+    checked_verdict s h = checked_by s (told_cause s (subst (λ (line : List ℕ). Tells line s) judged.line h))

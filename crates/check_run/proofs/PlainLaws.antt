@@ -54,9 +54,10 @@ plain_valid loaded out e v =
 -- the same item fails
 plain_bad : (loaded : Loaded) (out : List ℕ) (e : Evidence) (bad : BadItem) → IsBadEvidence loaded out e bad → IsBadEvidence loaded out (plain e) bad
 plain_bad loaded out e item.Kind h = λ of. h (of.0, has_of_plain e.body of.1)
-plain_bad loaded out e bad h =
-    ((h.0.0, plain_has e.body h.0.1),
-    ⊎_elim (λ fault. inl (plain_list_fault loaded e bad fault)) (λ wrong. inr (plain_lists loaded e wrong.0, plain_bad_body loaded out e.body bad wrong.1)) h.1)
+plain_bad loaded out e bad h = (
+  (h.0.0, plain_has e.body h.0.1),
+  ⊎_elim (λ fault. inl (plain_list_fault loaded e bad fault)) (λ wrong. inr (plain_lists loaded e wrong.0, plain_bad_body loaded out e.body bad wrong.1)) h.1,
+)
 
 -- what is answered of evidence that is read
 pub run_answer_of : (loaded : Loaded) (texts : CheckTexts) (e : Evidence) (answer : Option BadItem) → text_read texts.evidence ≡ Ok (plain e)
@@ -94,9 +95,11 @@ plain_valid_refusal loaded part e v =
 
 plain_bad_refusal : (loaded : Loaded) (e : Evidence) (bad : BadItem) → IsBadRefusal loaded e bad → IsBadRefusal loaded (plain e) bad
 plain_bad_refusal loaded e item.Kind h = λ part of. h part (of.0, refuses_of_plain e.body of.1)
-plain_bad_refusal loaded e bad h =
-    (h.0, (h.1.0, plain_refuses e.body h.1.1),
-    ⊎_elim (λ fault. inl (plain_list_fault loaded e bad fault)) (λ wrong. inr (plain_lists loaded e wrong.0, plain_bad_part (case_loaded loaded) h.0 e.body bad wrong.1)) h.2)
+plain_bad_refusal loaded e bad h = (
+  h.0,
+  (h.1.0, plain_refuses e.body h.1.1),
+  ⊎_elim (λ fault. inl (plain_list_fault loaded e bad fault)) (λ wrong. inr (plain_lists loaded e wrong.0, plain_bad_part (case_loaded loaded) h.0 e.body bad wrong.1)) h.2,
+)
 
 pub refused_answer_of : (loaded : Loaded) (texts : CheckTexts) (e : Evidence) (answer : Option BadItem) → text_read texts.evidence ≡ Ok (plain e)
     → IsRefusalAnswer loaded e answer → IsRefusedAnswer loaded texts answer

@@ -21,7 +21,7 @@ use Rattle.check_run.specs.declared.reading.CheckTexts.{CheckTexts}
 use Rattle.check_run.specs.declared.status.CheckStatus.{CheckStatus}
 use Rattle.check_run.specs.Files.{IsAsked, IsRead, IsFirstFaultFor, name_in}
 use Rattle.check_run.specs.Lines.{answer_line, verdict_line}
-use Rattle.check_run.specs.Verdicts.{IsBadFor, IsShownFor, IsValidFor, IsVerdict}
+use Rattle.check_run.specs.Verdicts.{IsBadFor, IsShownFor, IsValidFor, IsVerdictOn}
 
 -- the texts of the files, and the case that they make
 pub record Checked (run : Run) (command : CheckWords) (limits : Limits) : Type 0 where
@@ -48,7 +48,7 @@ IsNo run command limits item = (c : Checked run command limits)
 abbrev pub IsVerdictShort : Run → CheckWords → Limits → Type 0
 IsVerdictShort run command limits =
     (c : Checked run command limits) × (verdict : Option BadItem)
-    × IsVerdict command c.loaded c.texts verdict
+    × IsVerdictOn command c.loaded c.texts verdict
     × IfSome run.output.got (λ got. HasGotFront got run.output_after.got (line_in c verdict))
 
 -- the first fault of the files

@@ -73,6 +73,6 @@ IsShownFor (check.Repair el_part names) loaded texts =
 IsShownFor (check.Refusal el_part left right evidence) loaded texts = IsRefusedPart loaded texts
 
 -- the verdict: none of the items fails, or this is the first that does
-abbrev pub IsVerdict : CheckWords → Loaded → CheckTexts → Option BadItem → Type 0
-IsVerdict command loaded texts verdict =
+abbrev pub IsVerdictOn : CheckWords → Loaded → CheckTexts → Option BadItem → Type 0
+IsVerdictOn command loaded texts verdict =
     MatchOption verdict (IsShownFor command loaded texts) (IsBadFor command loaded texts)

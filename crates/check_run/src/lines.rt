@@ -20,17 +20,17 @@ pub fn usage_line() -> &'static [u8]
 fn class_iri(classes: &NameTable, node: u32) -> &str
     ensures { result.now ≡ slice_index_or (class_iris classes.now.names) node [] }
 {
-    match node {
-        0 => "http://www.w3.org/2002/07/owl#Thing",
-        1 => "http://www.w3.org/2002/07/owl#Nothing",
-        _ => {
-            if node - 2 < classes.len() {
-                classes.at(node - 2).as_str()
-            } else {
-                ""
-            }
-        }
+    if node == 0 {
+        return "http://www.w3.org/2002/07/owl#Thing";
     }
+    if node == 1 {
+        return "http://www.w3.org/2002/07/owl#Nothing";
+    }
+    let class = node - 2;
+    if class >= classes.len() {
+        return "";
+    }
+    classes.at(class).as_str()
 }
 
 fn source_text(alloc: Global, source: Source) -> Result<String, AllocError>

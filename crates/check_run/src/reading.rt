@@ -5,7 +5,7 @@ ghost use Rattle.io_edge.specs.Outside.{FaultsNeverFall};
 ghost use Rattle.command_words.specs.declared.types.CheckWords.TheVariants as check;
 ghost use Rattle.case_load.specs.Folders.{IsFile};
 ghost use Rattle.check_run.specs.Files.{bare_table, AreTextsFor, AreRunTexts, AreRefusalTexts};
-ghost use Rattle.check_run.specs.Inside.Reads.{IsReadStop, IsTextsStop, AreShort};
+ghost use Rattle.check_run.specs.Inside.Reads.{IsFileStop, IsTextsStop, AreShort};
 
 use case_load::{LimitKind, LoadFault};
 use command_words::{CheckWords, FileNames};
@@ -36,7 +36,7 @@ fn read_file<F: Folder>(
     ensures later { FaultsNeverFall (F.seen folder.old) (F.seen folder.new) }
     ensures ok { IfOk result (IsFile (F.seen folder.old) name.now most) }
     ensures err { IfErr result
-        (IsReadStop (F.seen folder.old) (F.seen folder.new) name.now most file) }
+        (IsFileStop (F.seen folder.old) (F.seen folder.new) name.now most file) }
 {
     match folder.read(alloc, name, most) {
         ReadAnswer::Whole(bytes) => Ok(bytes),

@@ -17,6 +17,7 @@ use crate::verdict::{Verdict, judged};
 use case_load::{LoadFault, texts_have_one_case_or_first_fault};
 use check_items::evidence_has_one_answer;
 use command_words::{CheckWords, WordsFault, read_check_words, words_have_one_reading};
+use derivation::derivations_have_one_answer;
 use io_edge::{Folder, PutAnswer, Sink, Target};
 use status_lines::{Speaker, put_load_fault};
 use std::alloc::Global;
@@ -83,6 +84,7 @@ fn check<F: Folder, S: Sink>(
 {
     texts_have_one_case_or_first_fault();
     evidence_has_one_answer();
+    derivations_have_one_answer();
     match judged(alloc, command, limits, folder) {
         Ok(verdict) => tell(alloc, out, &verdict),
         Err(fault) => refuse(alloc, out, fault),

@@ -9,7 +9,7 @@ ghost use Rattle.check_items.specs.Bad.{IsMade};
 ghost use Rattle.evidence_text.specs.Reading.{FailsRead, text_read};
 ghost use Rattle.check_run.specs.Files.{inputs_of, mode_of, IsFirstFaultFor};
 ghost use Rattle.check_run.specs.Lines.{verdict_line};
-ghost use Rattle.check_run.specs.Verdicts.{IsNoEvidence, IsVerdict};
+ghost use Rattle.check_run.specs.Verdicts.{IsNoEvidence, IsVerdictOn};
 ghost use Rattle.check_run.specs.Inside.Reads.{AreShort};
 ghost use Rattle.check_run.specs.Inside.Stages.{IsCaseOfTexts, IsJudged, IsRefusedAnswer, IsRunAnswer};
 
@@ -83,7 +83,7 @@ fn answer(
     texts: &CheckTexts,
 ) -> Result<Option<BadItem>, AllocError>
     requires { IsCaseOfTexts texts.now loaded.now }
-    ensures { IfOk result (IsVerdict command.now loaded.now texts.now) }
+    ensures { IfOk result (IsVerdictOn command.now loaded.now texts.now) }
 {
     valid_evidence_shows_the_repair(loaded);
     valid_refusals_show_incoherence(loaded);
@@ -102,7 +102,7 @@ fn verdict_on(
 ) -> Result<Verdict, AllocError>
     requires { IsCaseOfTexts texts.now loaded.now }
     ensures item { IfOk result (λ verdict.
-        IsVerdict command.now loaded.now texts.now verdict.item) }
+        IsVerdictOn command.now loaded.now texts.now verdict.item) }
     ensures line { IfOk result (λ verdict.
         string_bytes verdict.line ≡ verdict_line loaded.now.names.classes.names verdict.item) }
 {

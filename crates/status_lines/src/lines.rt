@@ -1,7 +1,7 @@
 //! The lines that a run prints.
 
-ghost use Rattle.std.specs.Prelude.{◌≡◌, ◌≤◌, IfOk, string_bytes};
-ghost use Rattle.status_lines.specs.Lines.{limit_text, load_line, place_text, refusal_line, summary_text, fault_text};
+ghost use Rattle.std.specs.Prelude.{◌≡◌, ◌≤◌, ◌++◌, codes, IfOk, string_bytes};
+ghost use Rattle.status_lines.specs.Lines.{fault_text, limit_text, load_line, place_text, refusal_line, speaker_text, summary_text};
 
 use crate::kinds::{kind_text, part_text, role_text, side_text};
 use crate::{Speaker, Status};
@@ -81,6 +81,21 @@ pub fn table_line(alloc: Global, speaker: Speaker, fault: TableFault) -> Result<
     format!(in alloc; "{name}: MAP: {fault}\n")
 }
 
+// The line up to the head.
+fn profile_front(
+    alloc: Global,
+    speaker: Speaker,
+    side: Side,
+    place: Place,
+) -> Result<String, AllocError>
+    ensures { IfOk result (λ front. string_bytes front ≡ speaker_text speaker
+        ++ (codes ": " ++ (place_text side place ++ codes ": not in the profile: "))) }
+{
+    let place = place_text(alloc, side, place)?;
+    let name = speaker.name();
+    format!(in alloc; "{name}: {place}: not in the profile: ")
+}
+
 pub fn profile_line(
     alloc: Global,
     speaker: Speaker,
@@ -91,9 +106,7 @@ pub fn profile_line(
     ensures { IfOk result (λ line.
         line.items ≡ load_line speaker (LoadFault.Profile side place head)) }
 {
-    let place = place_text(alloc, side, place)?;
-    let name = speaker.name();
-    let front = format!(in alloc; "{name}: {place}: not in the profile: ")?;
+    let front = profile_front(alloc, speaker, side, place)?;
     let mut line = Vec::from_slice(alloc, front.as_bytes())?;
     line.extend_from_slice(head.name())?;
     line.extend_from_slice(b"\n")?;

@@ -10,14 +10,14 @@ use Rattle.check_run.specs.declared.reading.CheckTexts.{CheckTexts}
 use Rattle.check_run.specs.Files.{IsUnread, IsTooLongFor}
 
 -- why a file was not read
-abbrev pub IsReadStop : FolderSeen → FolderSeen → List ℕ → ℕ → Role → LoadFault → Type 0
-IsReadStop old new name most role (load.ReadFault file) =
+abbrev pub IsFileStop : FolderSeen → FolderSeen → List ℕ → ℕ → Role → LoadFault → Type 0
+IsFileStop old new name most role (load.ReadFault file) =
     (file ≡ role) × ReadsRose old new name
     × IfSome old.files (λ files. ¬ (IsLonger (files name) most))
-IsReadStop old new name most role (load.Limit (limit.Bytes file)) =
+IsFileStop old new name most role (load.Limit (limit.Bytes file)) =
     (file ≡ role) × (most < 2 ^ 64 - 1) × IfSome old.files (λ files. IsLonger (files name) most)
-IsReadStop old new name most role load.OutOfMemory = ⊤
-IsReadStop old new name most role _ = ⊥
+IsFileStop old new name most role load.OutOfMemory = ⊤
+IsFileStop old new name most role _ = ⊥
 
 -- why the files were not all read
 abbrev pub IsTextsStop : FolderSeen → FolderSeen → CheckWords → ℕ → LoadFault → Type 0

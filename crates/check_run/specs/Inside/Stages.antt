@@ -16,7 +16,7 @@ use Rattle.status_lines.specs.Runs.{Run}
 use Rattle.check_run.specs.Check.{IsCheckFault, IsNo, IsVerdictShort, IsYes}
 use Rattle.check_run.specs.Files.{inputs_of, IsRead}
 use Rattle.check_run.specs.Lines.{answer_line, verdict_line}
-use Rattle.check_run.specs.Verdicts.{IsBadRefused, IsBadRun, IsValidRefused, IsValidRun, IsVerdict}
+use Rattle.check_run.specs.Verdicts.{IsBadRefused, IsBadRun, IsValidRefused, IsValidRun, IsVerdictOn}
 
 -- the case was made of these texts
 abbrev pub IsCaseOfTexts : CheckTexts → Loaded → Type 0
@@ -38,7 +38,7 @@ pub record IsJudged (folder : FolderSeen) (command : CheckWords) (limits : Limit
   pub texts : CheckTexts
   pub loaded : Loaded
   pub read : IsRead folder command limits texts loaded
-  pub item : IsVerdict command loaded texts verdict.item
+  pub item : IsVerdictOn command loaded texts verdict.item
   pub line : string_bytes verdict.line ≡ verdict_line loaded.names.classes.names verdict.item
 
 -- how a verdict is told: its line was put, or put in part, or memory ran out
