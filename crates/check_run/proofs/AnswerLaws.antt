@@ -1,5 +1,5 @@
 -- What a check answers, from the cause of its answer.
-use Rattle.std.proofs.Common.{◌≡◌, ◌⊎◌, ◌++◌, List, ℕ, inl, inr, refl, sym, ◌∙◌, ap, subst, ⊎_elim}
+use Rattle.std.proofs.Common.{◌≡◌, ◌⊎◌, ◌++◌, List, ℕ, inl, inr, refl, sym, ap, subst, ⊎_elim}
 use Rattle.std.specs.Prelude.{Option, Some, None, IfSome, string_bytes}
 use Rattle.byte_words.specs.Faults.{OrOutOfMemory}
 use Rattle.text_names.specs.declared.limits.Limits.{Limits}

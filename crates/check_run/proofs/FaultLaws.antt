@@ -64,9 +64,9 @@ module _ (folder : FolderSeen) (files : Files) (told : folder.files ≡ Some fil
     -- the five files have one text each
     one_run : (names : FileNames) (one other : CheckTexts) → AreRunTexts folder names most one → AreRunTexts folder names most other → one ≡ other
     one_run names one other h k = same_texts one other
-        (one_held names.left one.left other.left h.inputs.left.1 k.inputs.left.1)
-        (one_held names.right one.right other.right h.inputs.right.1 k.inputs.right.1)
-        (one_held names.map one.map other.map h.inputs.map.1 k.inputs.map.1)
+        (one_held names.left one.left other.left h.files.left.1 k.files.left.1)
+        (one_held names.right one.right other.right h.files.right.1 k.files.right.1)
+        (one_held names.map one.map other.map h.files.map.1 k.files.map.1)
         (one_held names.out one.out other.out h.out k.out)
         (one_held names.evidence one.evidence other.evidence h.evidence k.evidence)
 
@@ -94,9 +94,9 @@ module _ (folder : FolderSeen) (files : Files) (told : folder.files ≡ Some fil
 
     -- files that are read are not too long
     not_too_long : (command : CheckWords) (texts : CheckTexts) (file : Role) → AreTextsFor folder command most texts → IsTooLongFor folder command most file → ⊥
-    not_too_long (check.Repair el_part names) texts role.Left h long = not_longer names.left texts.left h.inputs.left long.1
-    not_too_long (check.Repair el_part names) texts role.Right h long = not_longer names.right texts.right h.inputs.right long.1
-    not_too_long (check.Repair el_part names) texts role.Map h long = not_longer names.map texts.map h.inputs.map long.1
+    not_too_long (check.Repair el_part names) texts role.Left h long = not_longer names.left texts.left h.files.left long.1
+    not_too_long (check.Repair el_part names) texts role.Right h long = not_longer names.right texts.right h.files.right long.1
+    not_too_long (check.Repair el_part names) texts role.Map h long = not_longer names.map texts.map h.files.map long.1
     not_too_long (check.Repair el_part names) texts role.Out h long = absurd long.1
     not_too_long (check.Repair el_part names) texts role.Evidence h long = absurd long.1
     not_too_long (check.Refusal el_part left right evidence) texts role.Left h long = not_longer left texts.left h.left_text long.1

@@ -1,9 +1,7 @@
 -- What putting a line leaves.
-use Rattle.std.proofs.Common.{◌≡◌, ◌⊎◌, ◌≤◌, ◌++◌, ℕ, suc, List, [], length, inl, inr, refl, sym, subst, ⊎_elim}
-use Rattle.std.specs.Prelude.{Option, Some, None, IfSome, slice_get, slice_index_or}
-use Rattle.std.proofs.lemmas.List.{get_or_past}
-use Rattle.std.proofs.lemmas.Option.{get_or_from_slice_get}
-use Rattle.io_edge.specs.Outside.{SinkSeen}
+use Rattle.std.proofs.Common.{◌≡◌, ◌⊎◌, ◌++◌, ℕ, List, inl, inr, refl, sym, subst, ⊎_elim}
+use Rattle.std.specs.Prelude.{Option, Some, None, IfSome}
+use Rattle.io_edge.specs.Outside.{HasGotFront, PutsRose, Rose, SinkSeen}
 use Rattle.io_edge.specs.declared.outside.Target.TheVariants as target
 use Rattle.case_load.specs.declared.fault.LoadFault.{LoadFault}
 use Rattle.case_load.specs.declared.fault.LoadFault.TheVariants as load
@@ -14,7 +12,7 @@ use Rattle.check_run.specs.declared.status.CheckStatus.{CheckStatus}
 use Rattle.check_run.specs.declared.status.CheckStatus.TheVariants as answer
 use Rattle.check_run.specs.Check.{AnswerStands, IsOrMemory}
 use Rattle.check_run.specs.Inside.Stages.{IsTold}
-use Rattle.check_run.specs.Lines.{check_status_of, class_iris, verdict_status}
+use Rattle.check_run.specs.Lines.{check_status_of, verdict_status}
 
 -- the line of a fault, whole
 whole : (got : Option (List ℕ)) (faults : ℕ) (new : SinkSeen) (fault : LoadFault) → IfSome got (λ bytes. new.got ≡ Some (bytes ++ load_line speaker.Alodcheck fault))
@@ -36,16 +34,25 @@ pub fault_line_whole : (old new : SinkSeen) (fault : LoadFault) → IfSome old.g
     → AnswerStands old new (check_status_of fault)
 fault_line_whole old new fault h = whole old.got old.faults new fault h
 
--- the IRI of a class by its node
-pub iri_there : (names : List (List ℕ)) (node class : ℕ) (iri : List ℕ) → suc (suc class) ≡ node → slice_get names class ≡ Some iri
-    → iri ≡ slice_index_or (class_iris names) node []
-iri_there names node class iri is there =
-    subst (λ (n : ℕ). iri ≡ slice_index_or (class_iris names) n []) is (sym (get_or_from_slice_get names class iri [] there))
+-- the line of a fault, after the first bytes of which the output failed
+failed : (got : Option (List ℕ)) (faults : ℕ) (new : SinkSeen) (fault : LoadFault) → Rose faults new.faults
+    → IfSome got (λ bytes. HasGotFront bytes new.got (load_line speaker.Alodcheck fault)) → AnswerStands (record { got = got; faults = faults }) new (check_status_of fault)
+failed None faults new load.OutOfMemory r h = tt
+failed None faults new (load.ReadFault file) r h = tt
+failed None faults new (load.Syntax side place kind) r h = tt
+failed None faults new (load.Profile side place head) r h = tt
+failed None faults new (load.Table fault) r h = tt
+failed None faults new (load.Limit kind) r h = tt
+failed (Some got) faults new load.OutOfMemory r h = h
+failed (Some got) faults new (load.ReadFault file) r h = inr (r, h)
+failed (Some got) faults new (load.Syntax side place kind) r h = inr (r, h)
+failed (Some got) faults new (load.Profile side place head) r h = inr (r, h)
+failed (Some got) faults new (load.Table fault) r h = inr (r, h)
+failed (Some got) faults new (load.Limit kind) r h = inr (r, h)
 
--- a node past all classes has no text
-pub iri_past : (names : List (List ℕ)) (node class : ℕ) → suc (suc class) ≡ node → length names ≤ class → [] ≡ slice_index_or (class_iris names) node []
-iri_past names node class is past =
-    subst (λ (n : ℕ). [] ≡ slice_index_or (class_iris names) n []) is (sym (get_or_past names class [] past))
+pub fault_line_failed : (old new : SinkSeen) (fault : LoadFault)
+    → PutsRose old new × IfSome old.got (λ got. HasGotFront got new.got (load_line speaker.Alodcheck fault)) → AnswerStands old new (check_status_of fault)
+fault_line_failed old new fault h = failed old.got old.faults new fault h.0 h.1
 
 -- a verdict whose line was put
 pub told_whole : (old new : SinkSeen) (verdict : Option BadItem) (line : List ℕ) → IfSome old.got (λ got. new.got ≡ Some (got ++ line))

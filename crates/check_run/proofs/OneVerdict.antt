@@ -1,5 +1,5 @@
 -- Valid evidence has no item that fails.
-use Rattle.std.proofs.Common.{◌≡◌, ℕ, List, [], inl, inr, sym, ◌∙◌, subst, ⊎_elim}
+use Rattle.std.proofs.Common.{◌≡◌, ℕ, List, [], sym, ◌∙◌, subst, ⊎_elim}
 use Rattle.std.specs.Prelude.{Result, Ok, Err}
 use Rattle.el_logic.specs.declared.types.Part.{Part}
 use Rattle.derivation.specs.declared.types.Step.{Step}
@@ -13,8 +13,6 @@ use Rattle.evidence_lines.specs.declared.types.Kind.TheVariants as kind
 use Rattle.evidence_text.specs.declared.types.Body.{Body}
 use Rattle.evidence_text.specs.declared.types.Body.TheVariants as body
 use Rattle.evidence_text.specs.declared.types.Evidence.{Evidence}
-use Rattle.evidence_text.specs.declared.types.EvidenceFault.{EvidenceFault}
-use Rattle.evidence_text.specs.declared.types.EvidenceFault.TheVariants as fault
 use Rattle.evidence_text.specs.Reading.{text_read}
 use Rattle.valid_evidence.specs.Rows.{steps_by_rank}
 use Rattle.valid_evidence.specs.Items.{case_loaded}
@@ -38,9 +36,9 @@ OneStepsAnswer = (case : CaseView) (part : Part) (ranks : List ℕ) (steps : Lis
 
 -- a text that is read has no fault
 read_or_not : (text : List ℕ) (e : Evidence) (bad : BadItem) → text_read text ≡ Ok e → IsNoEvidence text bad → ⊥
-read_or_not text e item.Version read none = let both : Ok e ≡ Err fault.Version = sym read ∙ none in cc
-read_or_not text e (item.Line number) read none = let both : Ok e ≡ Err (fault.Line number) = sym read ∙ none in cc
-read_or_not text e (item.Length number) read none = let both : Ok e ≡ Err (fault.Length number) = sym read ∙ none in cc
+read_or_not text e item.Version read none = let both = sym read ∙ none in cc
+read_or_not text e (item.Line number) read none = let both = sym read ∙ none in cc
+read_or_not text e (item.Length number) read none = let both = sym read ∙ none in cc
 read_or_not text e _ read none = absurd none
 
 -- and is read as one value
@@ -59,9 +57,9 @@ module _ (steps_law : OneStepsAnswer) where
   steps_are_right : (case : CaseView) (part : Part) (b : Body) (bad : BadItem) → IsRefusalBody case part b → IsBadPartBody case part b bad → ⊥
   steps_are_right case part (body.Diagnosis removed model journal) bad v h = absurd v
   steps_are_right case part (body.Refusal steps) (item.Step row number) v h =
-      let both : Ok tt ≡ Err (Bad.Step number) = steps_law case part [] (steps_by_rank case.order steps) (Ok tt) (Err (Bad.Step number)) v h.1 in cc
+      let both = steps_law case part [] (steps_by_rank case.order steps) (Ok tt) (Err (Bad.Step number)) v h.1 in cc
   steps_are_right case part (body.Refusal steps) (item.Goal row) v h =
-      let both : Ok tt ≡ Err Bad.Goal = steps_law case part [] (steps_by_rank case.order steps) (Ok tt) (Err Bad.Goal) v h.1 in cc
+      let both = steps_law case part [] (steps_by_rank case.order steps) (Ok tt) (Err Bad.Goal) v h.1 in cc
   steps_are_right case part (body.Refusal steps) _ v h = absurd h
 
   has_refusal : (case : CaseView) (part : Part) (b : Body) → IsRefusalBody case part b → HasRefusal b

@@ -1,6 +1,6 @@
 -- Evidence with room in its journal is answered as evidence without.
-use Rattle.std.proofs.Common.{◌≡◌, ℕ, List, inl, inr, ⊎_elim, subst}
-use Rattle.std.specs.Prelude.{Option, Some, None, Ok, MatchOption}
+use Rattle.std.proofs.Common.{◌≡◌, ℕ, List, inl, inr, ⊎_elim}
+use Rattle.std.specs.Prelude.{Option, Some, None, Ok}
 use Rattle.el_logic.specs.declared.types.Part.{Part}
 use Rattle.case_load.specs.declared.texts.Loaded.{Loaded}
 use Rattle.case_file.specs.Cases.{CaseView}
@@ -15,7 +15,6 @@ use Rattle.check_items.specs.declared.item.BadItem.{BadItem}
 use Rattle.check_items.specs.declared.item.BadItem.TheVariants as item
 use Rattle.check_items.specs.Bad.{HasDiagnosis, HasRefusal, IsBadBody, IsBadEvidence, IsBadPartBody, IsBadRefusal, IsItemAnswer, IsListFault, IsRefusalAnswer}
 use Rattle.check_run.specs.declared.reading.CheckTexts.{CheckTexts}
-use Rattle.check_run.specs.Verdicts.{IsNoEvidence}
 use Rattle.check_run.specs.Inside.Stages.{IsRefusedAnswer, IsRunAnswer}
 
 -- the lists are the same
@@ -65,12 +64,6 @@ pub run_answer_of : (loaded : Loaded) (texts : CheckTexts) (e : Evidence) (answe
 run_answer_of loaded texts e None read v = (plain e, read, plain_valid loaded texts.out e v)
 run_answer_of loaded texts e (Some bad) read h = inr (plain e, read, plain_bad loaded texts.out e bad h)
 
--- and of a text that is none
-pub run_answer_none : (loaded : Loaded) (texts : CheckTexts) (answer : Option BadItem) → MatchOption answer ⊥ (IsNoEvidence texts.evidence)
-    → IsRunAnswer loaded texts answer
-run_answer_none loaded texts None h = absurd h
-run_answer_none loaded texts (Some bad) h = inl h
-
 -- ---- a refusal
 
 plain_refusal : (case : CaseView) (part : Part) (b : Body) → IsRefusalBody case part b → IsRefusalBody case part (plain_body b)
@@ -105,8 +98,3 @@ pub refused_answer_of : (loaded : Loaded) (texts : CheckTexts) (e : Evidence) (a
     → IsRefusalAnswer loaded e answer → IsRefusedAnswer loaded texts answer
 refused_answer_of loaded texts e None read v = (v.0, plain e, read, plain_valid_refusal loaded v.0 e v.1)
 refused_answer_of loaded texts e (Some bad) read h = inr (plain e, read, plain_bad_refusal loaded e bad h)
-
-pub refused_answer_none : (loaded : Loaded) (texts : CheckTexts) (answer : Option BadItem) → MatchOption answer ⊥ (IsNoEvidence texts.evidence)
-    → IsRefusedAnswer loaded texts answer
-refused_answer_none loaded texts None h = absurd h
-refused_answer_none loaded texts (Some bad) h = inl h

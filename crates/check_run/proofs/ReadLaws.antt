@@ -1,5 +1,4 @@
 -- Why files are not read, as their first fault.
-use Rattle.std.proofs.Common.{◌≡◌, ℕ, subst}
 use Rattle.byte_words.specs.Faults.{OrOutOfMemory}
 use Rattle.text_names.specs.declared.limits.Limits.{Limits}
 use Rattle.io_edge.specs.Outside.{FolderSeen}

@@ -1,5 +1,5 @@
 -- What valid evidence shows, as a verdict.
-use Rattle.std.proofs.Common.{◌≡◌, ℕ, List}
+use Rattle.std.proofs.Common.{ℕ, List}
 use Rattle.std.specs.Prelude.{Bool, Option, Some, None}
 use Rattle.text_names.specs.declared.limits.Limits.{Limits}
 use Rattle.el_logic.specs.declared.types.Part.{Part}

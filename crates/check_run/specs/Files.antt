@@ -61,7 +61,7 @@ inputs_of texts = inputs texts.left texts.right texts.map
 -- the five files have these texts, and LEFT, RIGHT and MAP no more bytes than this
 pub record AreRunTexts (folder : FolderSeen) (names : FileNames) (most : ℕ) (texts : CheckTexts)
     : Type 0 where
-  pub inputs : AreFiles folder (inputs names.left names.right names.map) most (inputs_of texts)
+  pub files : AreFiles folder (inputs names.left names.right names.map) most (inputs_of texts)
   pub out : IsHeld folder names.out texts.out
   pub evidence : IsHeld folder names.evidence texts.evidence
 

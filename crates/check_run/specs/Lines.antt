@@ -3,7 +3,7 @@ use Rattle.std.specs.Prelude.{ℕ, List, [], ◌∷◌, ◌++◌, codes, decimal
 use Rattle.fact_table.specs.declared.types.Source.{Source}
 use Rattle.case_load.specs.declared.fault.LoadFault.{LoadFault}
 use Rattle.status_lines.specs.declared.speaker.Speaker.{Speaker}
-use Rattle.status_lines.specs.Lines.{load_line, line_of}
+use Rattle.status_lines.specs.Lines.{load_line}
 use Rattle.check_items.specs.declared.item.BadItem.{BadItem}
 use Rattle.check_run.specs.declared.status.CheckStatus.{CheckStatus}
 

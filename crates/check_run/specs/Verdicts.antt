@@ -1,5 +1,5 @@
 -- What evidence is answered.
-use Rattle.std.specs.Prelude.{◌≡◌, ◌⊎◌, ℕ, List, [], Option, Some, None, Ok, Err, MatchOption}
+use Rattle.std.specs.Prelude.{◌≡◌, ◌⊎◌, ℕ, List, Option, Ok, Err, MatchOption}
 use Rattle.el_logic.specs.declared.types.Part.{Part}
 use Rattle.el_logic.specs.Incoherent.{IsIncoherent, axioms_of_part}
 use Rattle.case_load.specs.declared.texts.Loaded.{Loaded}

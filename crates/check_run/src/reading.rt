@@ -1,6 +1,6 @@
 //! The files of a check.
 
-ghost use Rattle.std.specs.Prelude.{◌≡◌, ◌<◌, ◌-◌, ◌^◌, Bool, IfOk, IfErr};
+ghost use Rattle.std.specs.Prelude.{◌≡◌, ◌<◌, ◌^◌, Bool, IfOk, IfErr};
 ghost use Rattle.io_edge.specs.Outside.{FaultsNeverFall};
 ghost use Rattle.command_words.specs.declared.types.CheckWords.TheVariants as check;
 ghost use Rattle.case_load.specs.Folders.{IsFile};

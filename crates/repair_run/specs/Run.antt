@@ -1,5 +1,5 @@
 -- What a run answers, and how the files and the output stand after it.
-use Rattle.std.specs.Prelude.{◌≡◌, ◌≢◌, ◌⊎◌, ℕ, List, ◌++◌, Some, IfSome, ⊤}
+use Rattle.std.specs.Prelude.{◌≡◌, ◌≢◌, ◌⊎◌, ℕ, List, Some, IfSome, ⊤}
 use Rattle.text_names.specs.declared.limits.Limits.{Limits}
 use Rattle.text_names.specs.declared.place.Place.{Place}
 use Rattle.io_edge.specs.Outside.{Files, FolderSeen, SinkSeen, ReadsRose, WritesRose, PutsRose, HoldsFront, HasGotFront, with_file}

@@ -17,3 +17,9 @@ returns-in-Refusal c =
     let texts = c.args.texts.now in
     IfOk-weaker c.refused_answer.result (IsRefusedAnswer loaded texts) (IsVerdictOn c.args.command.now loaded texts)
     (λ found h. rw c.in-Refusal.is (refused_verdict loaded texts c.requires c.valid_refusals_show_incoherence.ensures c.in-Refusal.el_part c.in-Refusal.left c.in-Refusal.right c.in-Refusal.evidence found h)) c.refused_answer.ensures
+
+pub run_answer-requires : goal.run_answer-requires
+run_answer-requires c = (c.requires.1, c.requires.2.documents, c.requires.2.table, c.requires.2.made)
+
+pub refused_answer-requires : goal.refused_answer-requires
+refused_answer-requires c = (c.requires.1, c.requires.2.documents, c.requires.2.table, c.requires.2.made)
