@@ -1,6 +1,6 @@
 //! One check.
 
-ghost use Rattle.std.specs.Prelude.{◌≡◌, ◌≤◌, ◌<◌, ◌^◌, Err, string_bytes};
+ghost use Rattle.std.specs.Prelude.{◌≡◌, ◌≤◌, ◌<◌, ◌^◌, string_bytes};
 ghost use Rattle.command_words.specs.Commands.{IsCheck};
 ghost use Rattle.command_words.specs.declared.types.CheckWords.{CheckWords};
 ghost use Rattle.status_lines.specs.Runs.{run_over, IsUntouched};
