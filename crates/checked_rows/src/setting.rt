@@ -90,6 +90,5 @@ pub fn changed(alloc: Global, text: &str, part: &str, by: &str) -> Result<String
     let Some((front, back)) = text.split_once(part) else {
         return Err("the text has no such part".into());
     };
-    let (front, back) = (front, back);
     Ok(format!(in alloc; "{front}{by}{back}")?)
 }

@@ -1,6 +1,6 @@
 //! Evidence that holds, and words.
 
-use crate::setting::{APART, BELOW, Files, HEADER, NAMES, ROWS, SHOWN, answers};
+use crate::setting::{APART, BELOW, Files, HEADER, NAMES, ROWS, SHOWN, answers, changed};
 use std::test::Fail;
 
 #[test]
@@ -59,6 +59,42 @@ fn answers_yes_to_refusals(rt: HostRuntime) -> Result<(), Fail> {
         assert!(rt;
             answers(alloc, &words, &files, 0, "alodcheck: yes\n")?,
             "{left} {right}"
+        );
+    }
+    Ok(())
+}
+
+// A part of the first of these texts, what stands in its place, and what is printed after
+// `alodcheck: no: `.
+const NOT_REFUSED: [(&str, &str, &str); 4] = [
+    ("left 1\nend\n", "left 2\nend\n", "row 0 step 2"),
+    ("refusal left\n", "refusal right\n", "row 0 step 2"),
+    (
+        "steps 2\nsub 0 0 self\nsub 0 1 incl 1 left 1\n",
+        "steps 1\nsub 0 0 self\n",
+        "row 0 shows no empty class",
+    ),
+    ("nodes 2\ntop\n", "nodes 2\nbottom\n", "nodes"),
+];
+
+#[test]
+fn answers_no_to_wrong_refusals(rt: HostRuntime) -> Result<(), Fail> {
+    let alloc = rt.alloc();
+    let words = ["--refused", "LEFT", "RIGHT", "EVIDENCE"];
+    let [(left, right, whole), _, _] = REFUSED;
+    for (part, by, said) in NOT_REFUSED {
+        let evidence = changed(alloc, whole, part, by)?;
+        let line = format!(in alloc; "alodcheck: no: {said}\n")?;
+        let files = Files {
+            left: left.as_bytes(),
+            right: right.as_bytes(),
+            map: b"no table",
+            out: b"",
+            evidence: evidence.as_bytes(),
+        };
+        assert!(rt;
+            answers(alloc, &words, &files, 1, line.as_str())?,
+            "{part} {by}"
         );
     }
     Ok(())
