@@ -20,7 +20,7 @@ use Rattle.check_run.specs.declared.verdict.Verdict.{Verdict}
 use Rattle.check_run.specs.Files.{IsAsked, IsReachedFor}
 use Rattle.check_run.specs.Lines.{check_status_of, verdict_line}
 use Rattle.check_run.specs.Verdicts.{IsBadFor, IsValidFor, IsVerdictOn}
-use Rattle.check_run.specs.Check.{Checked, HasNoFault, IsCheckFault, IsChecked, IsNoOrMemory, IsOrMemory, IsOrReadStop}
+use Rattle.check_run.specs.Check.{Checked, HasNoFault, IsCheckFault, IsChecked, IsNoOrMemory, IsOrMemory, IsOrReadStop, IsVerdictOrMemory}
 use Rattle.check_run.specs.Inside.Stages.{IsCause, IsJudged, IsTold}
 use Rattle.check_run.proofs.FaultLaws.{OneAnswer, IsNoRead, case_or_fault, one_check_fault, same_case, same_reading}
 use Rattle.check_run.proofs.OneVerdict.{NoItemFails, OneStepsAnswer, shown_is_valid, valid_or_bad}
@@ -102,6 +102,19 @@ module _ (laws : OneAnswer) (no_item : NoItemFails) (steps_law : OneStepsAnswer)
     no_answer none c item b answer.OutOfMemory h = inr refl
     no_answer none c item b answer.Words h = absurd h
 
+    -- a case has a verdict
+    complete_answer : HasNoFault run command → Checked run command limits → (s : CheckStatus) → IsCause run command limits s → IsVerdictOrMemory s
+    complete_answer none c answer.Yes h = inl refl
+    complete_answer none c (answer.No item) h = inr (inl (item, refl))
+    complete_answer none c (answer.ReadFault file) h = absurd (none.reads file (asked run command limits.file_bytes file h.0) h.1)
+    complete_answer none c (answer.Syntax side place kind) h = absurd (no_fault c (load.Syntax side place kind) tt h)
+    complete_answer none c (answer.Profile side place head) h = absurd (no_fault c (load.Profile side place head) tt h)
+    complete_answer none c (answer.Table fault) h = absurd (no_fault c (load.Table fault) tt h)
+    complete_answer none c (answer.Limit kind) h = absurd (no_fault c (load.Limit kind) tt h)
+    complete_answer none c (answer.WriteFault what) h = absurd (none.put h.1)
+    complete_answer none c answer.OutOfMemory h = inr (inr refl)
+    complete_answer none c answer.Words h = absurd h
+
   -- all that is known of a check with this cause
   pub checked_by : (s : CheckStatus) → IsCause run command limits s → IsChecked run command limits s
   checked_by s cause = record {
@@ -109,6 +122,7 @@ module _ (laws : OneAnswer) (no_item : NoItemFails) (steps_law : OneStepsAnswer)
     yes_answer = told run.folder.files _ (λ f are none c v. yes_answer f are none c v s cause);
     no = λ item same. subst (IsCause run command limits) same cause;
     no_answer = told run.folder.files _ (λ f are none c item b. no_answer f are none c item b s cause);
+    complete = told run.folder.files _ (λ f are none c. complete_answer f are none c s cause);
     words = λ same. subst (IsCause run command limits) same cause;
     read_fault = λ file same. subst (IsCause run command limits) same cause;
     syntax = λ side place kind same. subst (IsCause run command limits) same cause;

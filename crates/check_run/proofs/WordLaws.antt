@@ -44,6 +44,7 @@ memory_checked run command limits = record {
   yes_answer = told run.folder.files _ (λ f none c v. inr refl);
   no = λ item same. subst (IsCause run command limits) same tt;
   no_answer = told run.folder.files _ (λ f none c item b. inr refl);
+  complete = told run.folder.files _ (λ f none c. inr (inr refl));
   words = λ same. subst (IsCause run command limits) same tt;
   read_fault = λ file same. subst (IsCause run command limits) same tt;
   syntax = λ side place kind same. subst (IsCause run command limits) same tt;

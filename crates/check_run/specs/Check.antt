@@ -77,6 +77,10 @@ abbrev pub IsNoOrMemory : CheckStatus → Type 0
 IsNoOrMemory result = ((item : BadItem) × (result ≡ CheckStatus.No item))
     ⊎ (result ≡ CheckStatus.OutOfMemory)
 
+-- a verdict, or memory ran out
+abbrev pub IsVerdictOrMemory : CheckStatus → Type 0
+IsVerdictOrMemory result = (result ≡ CheckStatus.Yes) ⊎ IsNoOrMemory result
+
 -- how the output stands after an answer that is no verdict; if memory ran out, the line may have
 -- been put in part
 abbrev pub AnswerStands : SinkSeen → SinkSeen → CheckStatus → Type 0
@@ -103,6 +107,9 @@ pub record IsChecked (run : Run) (command : CheckWords) (limits : Limits) (answe
   pub no_answer : IfTold run (λ files. HasNoFault run command
       → (c : Checked run command limits) (item : BadItem)
       → IsBadFor command c.loaded c.texts item → IsNoOrMemory answer)
+  -- if nothing failed, and the files are read and make a case, the answer is a verdict
+  pub complete : IfTold run (λ files. HasNoFault run command
+      → Checked run command limits → IsVerdictOrMemory answer)
   -- the arguments are those of the program
   pub words : answer ≢ CheckStatus.Words
   -- a file could not be read, after those before it were read

@@ -78,7 +78,8 @@ verdict_line names (Some item) = codes "alodcheck: no: " ++ (item_text names ite
 
 abbrev pub usage_line : List ℕ
 usage_line =
-    codes "alodcheck: usage: alodcheck [--el-part] LEFT RIGHT MAP OUT EVIDENCE, or alodcheck --refused [--el-part] LEFT RIGHT EVIDENCE\n"
+    codes "alodcheck: usage: alodcheck [--el-part] LEFT RIGHT MAP OUT EVIDENCE, or "
+    ++ codes "alodcheck --refused [--el-part] LEFT RIGHT EVIDENCE\n"
 
 -- the line of an answer that is no verdict; a fault of the output has none
 abbrev pub answer_line : CheckStatus → List ℕ
