@@ -19,7 +19,8 @@ use Rattle.status_lines.specs.declared.status.Status.{Status}
 use Rattle.status_lines.specs.Lines.{status_of}
 use Rattle.repair_run.specs.Words.{FileNames, name_of}
 use Rattle.repair_run.specs.Outcomes.{AreLoaded, AreCoherentTogether, IsIncoherentCase, IsRepairable, case_in, inputs_named, iri_of_class}
-use Rattle.repair_run.specs.Run.{Run, IfTold, IsRunFault, IsDone, IsRun, IsDecided, FilesStand, HasNoFault, IsOrMemory, IsOrReadStop, IsOrEvidenceStop}
+use Rattle.status_lines.specs.Runs.{Run, IfTold}
+use Rattle.repair_run.specs.Run.{IsRunFault, IsDone, IsRun, IsDecided, FilesStand, HasNoFault, IsOrMemory, IsOrReadStop, IsOrEvidenceStop}
 use Rattle.repair_run.specs.Inside.Stops.{IsStop}
 use Rattle.repair_run.proofs.FaultLaws.{OneAnswer, IsNoRead, loaded_or_fault, one_loaded, one_file_fault}
 use Rattle.repair_run.proofs.FoundLaws.{MoreStay, one_part, is_incoherent, one_iri}

@@ -6,7 +6,8 @@ use Rattle.io_edge.specs.Outside.{SinkSeen}
 use Rattle.io_edge.specs.declared.outside.Target.TheVariants as Target
 use Rattle.status_lines.specs.declared.status.Status.{Status}
 use Rattle.repair_run.specs.Words.{FileNames}
-use Rattle.repair_run.specs.Run.{Run, FilesStand, OutputStands, IsOrMemory}
+use Rattle.status_lines.specs.Runs.{Run}
+use Rattle.repair_run.specs.Run.{FilesStand, OutputStands, IsOrMemory}
 use Rattle.repair_run.specs.Inside.Stops.{IsStop, IsQuiet}
 
 -- it changes nothing of why the run stopped, nor of its files

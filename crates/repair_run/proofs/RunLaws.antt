@@ -17,7 +17,8 @@ use Rattle.status_lines.specs.Lines.{refusal_line, status_of}
 use Rattle.repair_run.specs.Words.{FileNames}
 use Rattle.repair_run.specs.declared.choosing.Results.{Results}
 use Rattle.repair_run.specs.Outcomes.{Outcome, inputs_named, AreLoaded, IsIncoherentCase, IsRepairable, out_text_of}
-use Rattle.repair_run.specs.Run.{Run, Shown, IfTold, HasGot, HoldsEvidence, HoldsBoth, IsDone, IsTorn, IsPutShort, FilesStand, OutputStands}
+use Rattle.status_lines.specs.Runs.{Run, IfTold, HasGot}
+use Rattle.repair_run.specs.Run.{Shown, HoldsEvidence, HoldsBoth, IsDone, IsTorn, IsPutShort, FilesStand, OutputStands}
 use Rattle.repair_run.specs.Inside.Choices.{AreResultsOf}
 use Rattle.repair_run.specs.Inside.Stops.{IsLoadStop, IsStop, IsQuiet, IsEvidenceStop, IsRefusal, IsRefused, IsWriteStop, Written, IsResultStop, AreWritten, written_of}
 

@@ -1,5 +1,5 @@
 -- What a run answers, and how the files and the output stand after it.
-use Rattle.std.specs.Prelude.{◌≡◌, ◌≢◌, ◌⊎◌, ℕ, List, ◌++◌, Some, IfSome, ⊤}
+use Rattle.std.specs.Prelude.{◌≡◌, ◌≢◌, ◌⊎◌, ℕ, List, Some, IfSome, ⊤}
 use Rattle.text_names.specs.declared.limits.Limits.{Limits}
 use Rattle.text_names.specs.declared.place.Place.{Place}
 use Rattle.io_edge.specs.Outside.{Files, FolderSeen, SinkSeen, ReadsRose, WritesRose, PutsRose, HoldsFront, HasGotFront, with_file}
@@ -17,28 +17,9 @@ use Rattle.case_load.specs.declared.fault.LoadFault.{LoadFault}
 use Rattle.case_load.specs.declared.fault.LoadFault.TheVariants as load
 use Rattle.status_lines.specs.declared.status.Status.{Status}
 use Rattle.status_lines.specs.Lines.{refusal_line}
+use Rattle.status_lines.specs.Runs.{Run, IfTold, HasGot, IsLinePut, IsUntouched}
 use Rattle.repair_run.specs.Words.{FileNames, name_of}
 use Rattle.repair_run.specs.Outcomes.{Outcome, inputs_named, out_text, summary_of, IsEvidence, IsRefusalEvidence, IsIncoherentCase, IsRepairable}
-
--- a run as clauses see it: the folder and the output before it, and after it
-pub record Run : Type 0 where
-  pub folder : FolderSeen
-  pub folder_after : FolderSeen
-  pub output : SinkSeen
-  pub output_after : SinkSeen
-
-abbrev pub run_over : FolderSeen → FolderSeen → SinkSeen → SinkSeen → Run
-run_over folder folder_after output output_after =
-    record {
-      folder = folder;
-      folder_after = folder_after;
-      output = output;
-      output_after = output_after;
-    }
-
--- what holds of the files before the run, if the folder tells them
-abbrev pub IfTold : Run → (Files → Type 0) → Type 0
-IfTold run Holds = IfSome run.folder.files Holds
 
 -- the first fault of the files: a read that failed or a file that is too long, LEFT before RIGHT
 -- before MAP; then LEFT's, RIGHT's and MAP's text, too many nodes, too many roles
@@ -55,10 +36,6 @@ HoldsEvidence run files names evidence =
 abbrev pub HoldsBoth : Run → Files → FileNames → List ℕ → List ℕ → Type 0
 HoldsBoth run files names evidence out =
     run.folder_after.files ≡ Some (with_file (with_file files names.evidence evidence) names.out out)
-
--- the output has got this line
-abbrev pub HasGot : Run → List ℕ → Type 0
-HasGot run line = IfSome run.output.got (λ got. run.output_after.got ≡ Some (got ++ line))
 
 -- what is read of the files and kept of it, and evidence of this
 pub record Shown (folder : FolderSeen) (names : FileNames) (limits : Limits) : Type 0 where
@@ -117,10 +94,6 @@ abbrev pub IsPutShort : Run → FileNames → Limits → Type 0
 IsPutShort run names limits = (o : Outcome run.folder names limits)
     × IfSome run.output.got (λ got. HasGotFront got run.output_after.got (summary_of o))
 
--- no file has changed
-abbrev pub IsUntouched : Run → Type 0
-IsUntouched run = run.folder_after.files ≡ run.folder.files
-
 -- how the files stand if memory ran out: as before, with the evidence, with both, or as a write
 -- that failed left them
 abbrev pub FilesWithoutMemory : Run → FileNames → Limits → Type 0
@@ -139,11 +112,6 @@ FilesStand run names limits (Status.WriteFault Target.Out) = IsTorn run names li
 FilesStand run names limits (Status.WriteFault Target.Output) = IsWritten run names limits
 FilesStand run names limits Status.OutOfMemory = FilesWithoutMemory run names limits
 FilesStand run names limits _ = IsUntouched run
-
--- the whole line was put, or the output failed after its first bytes
-abbrev pub IsLinePut : SinkSeen → SinkSeen → List ℕ → Type 0
-IsLinePut old new line = IfSome old.got (λ got.
-    (new.got ≡ Some (got ++ line)) ⊎ (PutsRose old new × HasGotFront got new.got line))
 
 -- how the output stands after an answer that is not the good one; if memory ran out, the line may
 -- have been put in part

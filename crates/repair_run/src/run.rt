@@ -3,7 +3,8 @@ ghost use Rattle.std.specs.Prelude.{◌≡◌, ◌≤◌, ◌<◌, ◌^◌, None
 ghost use Rattle.io_edge.specs.Outside.{FaultsNeverFall, with_file};
 ghost use Rattle.repair_run.specs.Words.{names_given};
 ghost use Rattle.repair_run.specs.Inside.Named.{named};
-ghost use Rattle.repair_run.specs.Run.{run_over, IfTold, HasGot, IsDone, IsRun, IsUntouched, IsOrMemory, FilesStand, OutputStands};
+ghost use Rattle.status_lines.specs.Runs.{run_over, HasGot, IsUntouched};
+ghost use Rattle.repair_run.specs.Run.{IsDone, IsRun, IsOrMemory, FilesStand, OutputStands};
 ghost use Rattle.repair_run.specs.Inside.Choices.{IsChoiceStop};
 ghost use Rattle.repair_run.specs.Inside.Stops.{IsStop, IsQuiet, IsEvidenceStop, IsWriteStop, IsRefused, IsResultStop, AreWritten, written_of};
 

@@ -11,6 +11,7 @@ use Rattle.sssom_rows.specs.Columns.{column_name}
 use Rattle.sssom_rows.specs.declared.fault.TableFault.{TableFault}
 use Rattle.case_load.specs.declared.fault.LimitKind.{LimitKind}
 use Rattle.case_load.specs.declared.fault.LoadFault.{LoadFault}
+use Rattle.status_lines.specs.declared.speaker.Speaker.{Speaker}
 use Rattle.status_lines.specs.declared.status.Status.{Status}
 
 abbrev pub status_number : Status → ℕ
@@ -90,25 +91,48 @@ abbrev pub place_text : Side → Place → List ℕ
 place_text side place =
     side_text side ++ (codes ":" ++ (decimal place.line ++ (codes ":" ++ decimal place.column)))
 
+-- what a program says of files with a fault
+abbrev pub load_text : LoadFault → List ℕ
+load_text (LoadFault.Syntax side place kind) =
+    place_text side place ++ (codes ": " ++ kind_text kind)
+load_text (LoadFault.Table fault) = codes "MAP: " ++ fault_text fault
+load_text (LoadFault.Profile side place head) =
+    place_text side place ++ (codes ": not in the profile: " ++ name_of head)
+load_text (LoadFault.Limit kind) = codes "limit: " ++ limit_text kind
+load_text (LoadFault.ReadFault file) = codes "cannot read " ++ role_text file
+load_text LoadFault.OutOfMemory = codes "out of memory"
+
+-- the name of a program, as its lines begin
+abbrev pub speaker_text : Speaker → List ℕ
+speaker_text Speaker.Alod = codes "alod"
+speaker_text Speaker.Alodcheck = codes "alodcheck"
+
+-- a line of a program: its name, and what it says
+abbrev pub line_of : Speaker → List ℕ → List ℕ
+line_of speaker text = speaker_text speaker ++ (codes ": " ++ (text ++ codes "\n"))
+
+-- the line of a program of files with a fault
+abbrev pub load_line : Speaker → LoadFault → List ℕ
+load_line speaker fault = line_of speaker (load_text fault)
+
 -- the line of a refusal; a run that is done prints its summary in place of it, and a fault of the
 -- output no line
 abbrev pub refusal_line : Status → List ℕ
 refusal_line Status.Done = []
 refusal_line Status.Words = codes "alod: usage: alod LEFT RIGHT MAP OUT EVIDENCE\n"
 refusal_line (Status.Syntax side place kind) =
-    codes "alod: " ++ (place_text side place ++ (codes ": " ++ (kind_text kind ++ codes "\n")))
-refusal_line (Status.Table fault) = codes "alod: MAP: " ++ (fault_text fault ++ codes "\n")
+    load_line Speaker.Alod (LoadFault.Syntax side place kind)
+refusal_line (Status.Table fault) = load_line Speaker.Alod (LoadFault.Table fault)
 refusal_line (Status.Profile side place head) =
-    codes "alod: " ++ (place_text side place
-    ++ (codes ": not in the profile: " ++ (name_of head ++ codes "\n")))
+    load_line Speaker.Alod (LoadFault.Profile side place head)
 refusal_line (Status.Incoherent part class) =
     codes "alod: " ++ (part_text part ++ (codes " incoherent: <" ++ (class ++ codes ">\n")))
-refusal_line (Status.Limit kind) = codes "alod: limit: " ++ (limit_text kind ++ codes "\n")
-refusal_line (Status.ReadFault file) = codes "alod: cannot read " ++ (role_text file ++ codes "\n")
+refusal_line (Status.Limit kind) = load_line Speaker.Alod (LoadFault.Limit kind)
+refusal_line (Status.ReadFault file) = load_line Speaker.Alod (LoadFault.ReadFault file)
 refusal_line (Status.WriteFault Target.Out) = codes "alod: cannot write OUT\n"
 refusal_line (Status.WriteFault Target.Evidence) = codes "alod: cannot write EVIDENCE\n"
 refusal_line (Status.WriteFault Target.Output) = []
-refusal_line Status.OutOfMemory = codes "alod: out of memory\n"
+refusal_line Status.OutOfMemory = load_line Speaker.Alod LoadFault.OutOfMemory
 
 -- the summary: how many rows there are, are kept, are removed and are inert, and how many axioms
 -- were omitted

@@ -1,11 +1,11 @@
 //! The lines that a run prints.
 
-ghost use Rattle.std.specs.Prelude.{◌≡◌, ◌≤◌, IfOk, string_bytes};
-ghost use Rattle.status_lines.specs.Lines.{limit_text, place_text, refusal_line, summary_text, fault_text};
+ghost use Rattle.std.specs.Prelude.{◌≡◌, ◌≤◌, ◌++◌, codes, IfOk, string_bytes};
+ghost use Rattle.status_lines.specs.Lines.{fault_text, limit_text, load_line, place_text, refusal_line, speaker_text, summary_text};
 
-use crate::Status;
 use crate::kinds::{kind_text, part_text, role_text, side_text};
-use case_load::LimitKind;
+use crate::{Speaker, Status};
+use case_load::{LimitKind, LoadFault};
 use el_logic::{Part, Side};
 use io_edge::{Role, Target};
 use ofn_axiom::{DocKind, HeadId};
@@ -40,16 +40,18 @@ fn place_text(alloc: Global, side: Side, place: Place) -> Result<String, AllocEr
 
 pub fn syntax_line(
     alloc: Global,
+    speaker: Speaker,
     side: Side,
     place: Place,
     kind: DocKind,
 ) -> Result<String, AllocError>
     ensures { IfOk result (λ line.
-        string_bytes line ≡ refusal_line (Status.Syntax side place kind)) }
+        string_bytes line ≡ load_line speaker (LoadFault.Syntax side place kind)) }
 {
     let place = place_text(alloc, side, place)?;
     let kind = kind_text(kind);
-    format!(in alloc; "alod: {place}: {kind}\n")
+    let name = speaker.name();
+    format!(in alloc; "{name}: {place}: {kind}\n")
 }
 
 fn fault_text(alloc: Global, fault: TableFault) -> Result<String, AllocError>
@@ -70,26 +72,42 @@ fn fault_text(alloc: Global, fault: TableFault) -> Result<String, AllocError>
     }
 }
 
-pub fn table_line(alloc: Global, fault: TableFault) -> Result<String, AllocError>
-    ensures { IfOk result (λ line. string_bytes line ≡ refusal_line (Status.Table fault)) }
+pub fn table_line(alloc: Global, speaker: Speaker, fault: TableFault) -> Result<String, AllocError>
+    ensures { IfOk result (λ line.
+        string_bytes line ≡ load_line speaker (LoadFault.Table fault)) }
 {
     let fault = fault_text(alloc, fault)?;
-    format!(in alloc; "alod: MAP: {fault}\n")
+    let name = speaker.name();
+    format!(in alloc; "{name}: MAP: {fault}\n")
+}
+
+// The line up to the head.
+fn profile_front(
+    alloc: Global,
+    speaker: Speaker,
+    side: Side,
+    place: Place,
+) -> Result<String, AllocError>
+    ensures { IfOk result (λ front. string_bytes front ≡ speaker_text speaker
+        ++ (codes ": " ++ (place_text side place ++ codes ": not in the profile: "))) }
+{
+    let place = place_text(alloc, side, place)?;
+    let name = speaker.name();
+    format!(in alloc; "{name}: {place}: not in the profile: ")
 }
 
 pub fn profile_line(
     alloc: Global,
+    speaker: Speaker,
     side: Side,
     place: Place,
     head: HeadId,
 ) -> Result<Vec<u8>, AllocError>
     ensures { IfOk result (λ line.
-        line.items ≡ refusal_line (Status.Profile side place head)) }
+        line.items ≡ load_line speaker (LoadFault.Profile side place head)) }
 {
-    let place = place_text(alloc, side, place)?;
-    let mut line = Vec::from_slice(alloc, b"alod: ")?;
-    line.extend_from_slice(place.as_bytes())?;
-    line.extend_from_slice(b": not in the profile: ")?;
+    let front = profile_front(alloc, speaker, side, place)?;
+    let mut line = Vec::from_slice(alloc, front.as_bytes())?;
     line.extend_from_slice(head.name())?;
     line.extend_from_slice(b"\n")?;
     Ok(line)
@@ -120,22 +138,38 @@ fn limit_text(alloc: Global, kind: LimitKind) -> Result<String, AllocError>
     }
 }
 
-pub fn limit_line(alloc: Global, kind: LimitKind) -> Result<String, AllocError>
-    ensures { IfOk result (λ line. string_bytes line ≡ refusal_line (Status.Limit kind)) }
+pub fn limit_line(alloc: Global, speaker: Speaker, kind: LimitKind) -> Result<String, AllocError>
+    ensures { IfOk result (λ line.
+        string_bytes line ≡ load_line speaker (LoadFault.Limit kind)) }
 {
     let kind = limit_text(alloc, kind)?;
-    format!(in alloc; "alod: limit: {kind}\n")
+    let name = speaker.name();
+    format!(in alloc; "{name}: limit: {kind}\n")
 }
 
-pub fn cannot_read(file: Role) -> &'static [u8]
-    ensures { result.now ≡ refusal_line (Status.ReadFault file) }
+pub fn cannot_read(speaker: Speaker, file: Role) -> &'static [u8]
+    ensures { result.now ≡ load_line speaker (LoadFault.ReadFault file) }
 {
-    match file {
-        Role::Left => b"alod: cannot read LEFT\n",
-        Role::Right => b"alod: cannot read RIGHT\n",
-        Role::Map => b"alod: cannot read MAP\n",
-        Role::Out => b"alod: cannot read OUT\n",
-        Role::Evidence => b"alod: cannot read EVIDENCE\n",
+    match (speaker, file) {
+        (Speaker::Alod, Role::Left) => b"alod: cannot read LEFT\n",
+        (Speaker::Alod, Role::Right) => b"alod: cannot read RIGHT\n",
+        (Speaker::Alod, Role::Map) => b"alod: cannot read MAP\n",
+        (Speaker::Alod, Role::Out) => b"alod: cannot read OUT\n",
+        (Speaker::Alod, Role::Evidence) => b"alod: cannot read EVIDENCE\n",
+        (Speaker::Alodcheck, Role::Left) => b"alodcheck: cannot read LEFT\n",
+        (Speaker::Alodcheck, Role::Right) => b"alodcheck: cannot read RIGHT\n",
+        (Speaker::Alodcheck, Role::Map) => b"alodcheck: cannot read MAP\n",
+        (Speaker::Alodcheck, Role::Out) => b"alodcheck: cannot read OUT\n",
+        (Speaker::Alodcheck, Role::Evidence) => b"alodcheck: cannot read EVIDENCE\n",
+    }
+}
+
+pub fn out_of_memory(speaker: Speaker) -> &'static [u8]
+    ensures { result.now ≡ load_line speaker LoadFault.OutOfMemory }
+{
+    match speaker {
+        Speaker::Alod => b"alod: out of memory\n",
+        Speaker::Alodcheck => b"alodcheck: out of memory\n",
     }
 }
 

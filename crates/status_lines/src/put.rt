@@ -2,12 +2,14 @@
 
 ghost use Rattle.std.specs.Prelude.{◌≡◌, ◌≤◌, ℕ, List, IfOk, string_bytes};
 ghost use Rattle.io_edge.specs.Outside.{PutAnswers};
-ghost use Rattle.status_lines.specs.Lines.{refusal_line};
+ghost use Rattle.status_lines.specs.Lines.{load_line, refusal_line};
 
-use crate::Status;
 use crate::lines::{
-    cannot_read, cannot_write, incoherent_line, limit_line, profile_line, syntax_line, table_line,
+    cannot_read, cannot_write, incoherent_line, limit_line, out_of_memory, profile_line,
+    syntax_line, table_line,
 };
+use crate::{Speaker, Status};
+use case_load::LoadFault;
 use io_edge::{PutAnswer, Sink};
 use std::alloc::{AllocError, Global};
 
@@ -35,28 +37,70 @@ fn put_written<S: Sink>(alloc: Global, out: &mut S, line: Result<String, AllocEr
     }
 }
 
+/// Puts what a program says of files with a fault, as one piece. That a file can't be read, and that
+/// memory ran out, asks for no memory.
+pub fn put_load_fault<S: Sink>(
+    alloc: Global,
+    out: &mut S,
+    speaker: Speaker,
+    fault: LoadFault,
+) -> PutAnswer
+    ensures answer { PutAnswers (S.seen out.old) (S.seen out.new) (load_line speaker fault) result }
+    ensures later { (S.seen out.old).faults ≤ (S.seen out.new).faults }
+{
+    match fault {
+        LoadFault::Syntax { side, place, kind } => {
+            put_written(alloc, out, syntax_line(alloc, speaker, side, place, kind))
+        }
+        LoadFault::Table { fault } => put_written(alloc, out, table_line(alloc, speaker, fault)),
+        LoadFault::Profile { side, place, head } => {
+            put_made(alloc, out, profile_line(alloc, speaker, side, place, head))
+        }
+        LoadFault::Limit { kind } => put_written(alloc, out, limit_line(alloc, speaker, kind)),
+        LoadFault::ReadFault { file } => out.put(alloc, cannot_read(speaker, file)),
+        LoadFault::OutOfMemory => out.put(alloc, out_of_memory(speaker)),
+    }
+}
+
 /// Puts the line of a refusal, as one piece. That of `Words`, of a fault of the system, and that
 /// memory ran out, ask for no memory.
 pub fn put_refusal<S: Sink>(alloc: Global, out: &mut S, status: &Status) -> PutAnswer
     ensures answer { PutAnswers (S.seen out.old) (S.seen out.new) (refusal_line status.now) result }
     ensures later { (S.seen out.old).faults ≤ (S.seen out.new).faults }
 {
+    let speaker = Speaker::Alod;
     match status {
         Status::Done => out.put(alloc, b""),
         Status::Words => out.put(alloc, b"alod: usage: alod LEFT RIGHT MAP OUT EVIDENCE\n"),
         Status::Syntax { side, place, kind } => {
-            put_written(alloc, out, syntax_line(alloc, *side, *place, *kind))
+            let (side, place, kind) = (*side, *place, *kind);
+            put_load_fault(alloc, out, speaker, LoadFault::Syntax { side, place, kind })
         }
-        Status::Table { fault } => put_written(alloc, out, table_line(alloc, *fault)),
+        Status::Table { fault } => {
+            let fault = *fault;
+            put_load_fault(alloc, out, speaker, LoadFault::Table { fault })
+        }
         Status::Profile { side, place, head } => {
-            put_made(alloc, out, profile_line(alloc, *side, *place, *head))
+            let (side, place, head) = (*side, *place, *head);
+            put_load_fault(
+                alloc,
+                out,
+                speaker,
+                LoadFault::Profile { side, place, head },
+            )
         }
         Status::Incoherent { part, class } => {
             put_made(alloc, out, incoherent_line(alloc, *part, class))
         }
-        Status::Limit { kind } => put_written(alloc, out, limit_line(alloc, *kind)),
-        Status::ReadFault { file } => out.put(alloc, cannot_read(*file)),
+        Status::Limit { kind } => {
+            let kind = *kind;
+            put_load_fault(alloc, out, speaker, LoadFault::Limit { kind })
+        }
+        Status::ReadFault { file } => {
+            let file = *file;
+            put_load_fault(alloc, out, speaker, LoadFault::ReadFault { file })
+        }
         Status::WriteFault { target } => out.put(alloc, cannot_write(*target)),
-        Status::OutOfMemory => out.put(alloc, b"alod: out of memory\n"),
+        Status::OutOfMemory => put_load_fault(alloc, out, speaker, LoadFault::OutOfMemory),
     }
 }

@@ -13,7 +13,8 @@ use Rattle.repair_run.specs.Outcomes.{inputs_named, IsIncoherentCase, IsRefusalE
 use Rattle.case_load.specs.declared.texts.Loaded.{Loaded}
 use Rattle.el_logic.specs.declared.types.Part.{Part}
 use Rattle.repair_run.specs.Inside.Choices.{IsFound}
-use Rattle.repair_run.specs.Run.{Run, IfTold, IsRunFault, IsPutShort, IsDecided, HoldsEvidence, HoldsBoth}
+use Rattle.status_lines.specs.Runs.{Run, IfTold}
+use Rattle.repair_run.specs.Run.{IsRunFault, IsPutShort, IsDecided, HoldsEvidence, HoldsBoth}
 
 -- why the files are not loaded
 abbrev pub IsLoadStop : FolderSeen → FolderSeen → FileNames → Limits → Status → Type 0

@@ -1,5 +1,5 @@
 use Rattle.repair_run.specs.Inside.Named.{named}
-use Rattle.repair_run.specs.Run.{run_over}
+use Rattle.status_lines.specs.Runs.{run_over}
 use Rattle.repair_run.proofs.AnswerLaws.{done_run, refused_run}
 use Rattle.repair_run.proofs.LineLaws.{later_stop, later_files, refused_output}
 use Rattle.repair_run.proofs.run.repair.Goals as goal

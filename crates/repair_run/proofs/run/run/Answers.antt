@@ -2,7 +2,7 @@ use Rattle.std.proofs.Common.{◌≡◌}
 use Rattle.std.specs.Prelude.{Some}
 use Rattle.repair_run.specs.Inside.Named.{named}
 use Rattle.repair_run.specs.Inside.Stops.{written_of}
-use Rattle.repair_run.specs.Run.{run_over}
+use Rattle.status_lines.specs.Runs.{run_over}
 use Rattle.repair_run.proofs.RunLaws.{later_told, from_first, refused_from_first, refused_stop, refused_files, done, write_stop, write_files, write_quiet}
 use Rattle.repair_run.proofs.run.run.Goals as goal
 

@@ -1,0 +1,9 @@
+pub mod FaultLaws
+pub mod ReadLaws
+pub mod PlainLaws
+pub mod SameLaws
+pub mod OneVerdict
+pub mod VerdictLaws
+pub mod LineLaws
+pub mod WordLaws
+pub mod AnswerLaws

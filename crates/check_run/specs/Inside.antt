@@ -1,0 +1,3 @@
+-- What only the code of this crate and its proofs cite.
+pub mod Reads
+pub mod Stages

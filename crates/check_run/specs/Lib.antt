@@ -1,0 +1,5 @@
+pub mod Files
+pub mod Verdicts
+pub mod Lines
+pub mod Check
+pub mod Inside
