@@ -2,8 +2,8 @@
 """Changes evidence in thirty ways and checks each: `tampered.py LEFT RIGHT MAP OUT EVIDENCE [SEED]`.
 
 A change is of one byte, of one number, or of one line that is dropped, doubled, or exchanged with the next, each of the
-five ways six times, at random places, the same for the same SEED. For each change the script prints what was changed, and what
-`alodcheck` says of it. A change that leaves the text as it is doesn't count, and another is made in its place.
+five ways six times, at random places, the same for the same SEED. For each change the script prints what was changed,
+and what `alodcheck` says of it. A change that leaves the text as it is doesn't count, and another is made in its place.
 """
 
 import pathlib
