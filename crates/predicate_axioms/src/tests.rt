@@ -73,59 +73,68 @@ fn axioms(alloc: Global, row: &str) -> Result<String, Fail> {
     }
 }
 
+// A row, and its axioms.
+type Case = (&'static str, &'static str);
+
+static OF_CLASSES: [Case; 11] = [
+    ("n:a\towl:equivalentClass\tn:b\t", "ab ba "),
+    ("n:a\tskos:exactMatch\tn:b\t", "ab ba "),
+    ("n:a\trdfs:subClassOf\tn:b\t", "ab "),
+    ("n:a\tskos:broadMatch\tn:b\t", "ab "),
+    ("n:a\tskos:narrowMatch\tn:b\t", "ba "),
+    ("n:a\towl:equivalentProperty\tn:b\t", ""),
+    ("n:a\trdfs:subPropertyOf\tn:b\t", ""),
+    ("n:a\tskos:closeMatch\tn:b\t", ""),
+    ("n:a\tskos:broadMatch\towl:Nothing\t", "aB "),
+    ("owl:Thing\tskos:broadMatch\tn:a\t", "Ta "),
+    ("n:c\tskos:broadMatch\tn:a\t", "?a "),
+];
+
+static OF_PROPERTIES: [Case; 8] = [
+    ("n:p\towl:equivalentClass\tn:q\t", ""),
+    ("n:p\tskos:exactMatch\tn:q\t", "pq qp "),
+    ("n:p\trdfs:subClassOf\tn:q\t", ""),
+    ("n:p\tskos:broadMatch\tn:q\t", "pq "),
+    ("n:p\tskos:narrowMatch\tn:q\t", "qp "),
+    ("n:p\towl:equivalentProperty\tn:q\t", "pq qp "),
+    ("n:p\trdfs:subPropertyOf\tn:q\t", "pq "),
+    ("n:p\tskos:broadMatch\tn:c\t", ""),
+];
+
+static INERT: [Case; 8] = [
+    ("n:a\tskos:broadMatch\tn:b\tNot", ""),
+    ("n:a\tskos:broadMatch\tn:p\t", ""),
+    ("n:p\tskos:exactMatch\tn:a\t", ""),
+    ("n:a\tskos:broadMatch\tn:x\t", ""),
+    ("n:x\tskos:broadMatch\tn:p\t", ""),
+    ("\tskos:broadMatch\tn:b\t", ""),
+    ("n:a\t\tn:b\t", ""),
+    ("n:a\tskos:broadMatch\t\t", ""),
+];
+
 #[test]
 fn gives_axioms_of_classes(rt: HostRuntime) -> Result<(), Fail> {
-    let rows = [
-        ("n:a\towl:equivalentClass\tn:b\t", "ab ba "),
-        ("n:a\tskos:exactMatch\tn:b\t", "ab ba "),
-        ("n:a\trdfs:subClassOf\tn:b\t", "ab "),
-        ("n:a\tskos:broadMatch\tn:b\t", "ab "),
-        ("n:a\tskos:narrowMatch\tn:b\t", "ba "),
-        ("n:a\towl:equivalentProperty\tn:b\t", ""),
-        ("n:a\trdfs:subPropertyOf\tn:b\t", ""),
-        ("n:a\tskos:closeMatch\tn:b\t", ""),
-        ("n:a\tskos:broadMatch\towl:Nothing\t", "aB "),
-        ("owl:Thing\tskos:broadMatch\tn:a\t", "Ta "),
-        ("n:c\tskos:broadMatch\tn:a\t", "?a "),
-    ];
-    for (row, wanted) in rows {
-        assert_eq!(rt; axioms(rt.alloc(), row)?.as_str(), wanted, "{row}");
+    for case in &OF_CLASSES {
+        let found = axioms(rt.alloc(), case.0)?;
+        assert_eq!(rt; found.as_str(), case.1, "{}", case.0);
     }
     Ok(())
 }
 
 #[test]
 fn gives_axioms_of_properties(rt: HostRuntime) -> Result<(), Fail> {
-    let rows = [
-        ("n:p\towl:equivalentClass\tn:q\t", ""),
-        ("n:p\tskos:exactMatch\tn:q\t", "pq qp "),
-        ("n:p\trdfs:subClassOf\tn:q\t", ""),
-        ("n:p\tskos:broadMatch\tn:q\t", "pq "),
-        ("n:p\tskos:narrowMatch\tn:q\t", "qp "),
-        ("n:p\towl:equivalentProperty\tn:q\t", "pq qp "),
-        ("n:p\trdfs:subPropertyOf\tn:q\t", "pq "),
-        ("n:p\tskos:broadMatch\tn:c\t", ""),
-    ];
-    for (row, wanted) in rows {
-        assert_eq!(rt; axioms(rt.alloc(), row)?.as_str(), wanted, "{row}");
+    for case in &OF_PROPERTIES {
+        let found = axioms(rt.alloc(), case.0)?;
+        assert_eq!(rt; found.as_str(), case.1, "{}", case.0);
     }
     Ok(())
 }
 
 #[test]
 fn keeps_inert_rows(rt: HostRuntime) -> Result<(), Fail> {
-    let rows = [
-        "n:a\tskos:broadMatch\tn:b\tNot",
-        "n:a\tskos:broadMatch\tn:p\t",
-        "n:p\tskos:exactMatch\tn:a\t",
-        "n:a\tskos:broadMatch\tn:x\t",
-        "n:x\tskos:broadMatch\tn:p\t",
-        "\tskos:broadMatch\tn:b\t",
-        "n:a\t\tn:b\t",
-        "n:a\tskos:broadMatch\t\t",
-    ];
-    for row in rows {
-        assert_eq!(rt; axioms(rt.alloc(), row)?.as_str(), "", "{row}");
+    for case in &INERT {
+        let found = axioms(rt.alloc(), case.0)?;
+        assert_eq!(rt; found.as_str(), case.1, "{}", case.0);
     }
     Ok(())
 }
