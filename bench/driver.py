@@ -7,6 +7,7 @@ first: that takes some minutes, and is not measured.
 import pathlib
 import shutil
 import subprocess
+import sys
 import tempfile
 
 REPOSITORY = pathlib.Path(__file__).resolve().parent.parent
@@ -28,19 +29,32 @@ def with_those_below(names, all_libraries):
     return list(dict.fromkeys(found))
 
 
-def run_driver(name, text, crates, measure):
-    """Runs the program over these crates, and prints its lines with this measure, or all that it printed if none has."""
+def build_driver(root, name, text, crates):
+    """A program over these crates, of the repository or of the kit, built in a repository of its own in this folder."""
     all_libraries = libraries()
     used = with_those_below(crates, all_libraries)
+    for crate in used:
+        shutil.copytree(REPOSITORY / "crates" / crate, root / "crates" / crate, ignore=shutil.ignore_patterns("out"))
+    (root / "crates" / name / "src").mkdir(parents=True)
+    (root / "crates" / name / "src" / "main.rt").write_text(text)
+    lines = [f"{crate}: {' '.join(all_libraries[crate])}" for crate in used]
+    lines.append(f"{name}: {' '.join(crates)}")
+    (root / "crates.txt").write_text("\n".join(lines) + "\n")
+    return subprocess.run(["rt", "run", "--jobs", "2"], cwd=root / "crates" / name, capture_output=True, text=True)
+
+
+def built_driver(root, name, text, crates):
+    """The built program. It ends the script if there is none."""
+    run = build_driver(root, name, text, crates)
+    program = root / "crates" / name / "out" / name
+    if not program.exists():
+        sys.exit(run.stdout + run.stderr)
+    return program
+
+
+def run_driver(name, text, crates, measure):
+    """Runs the program over these crates, and prints its lines with this measure, or all that it printed if none has."""
     with tempfile.TemporaryDirectory() as folder:
-        root = pathlib.Path(folder)
-        for crate in used:
-            shutil.copytree(REPOSITORY / "crates" / crate, root / "crates" / crate, ignore=shutil.ignore_patterns("out"))
-        (root / "crates" / name / "src").mkdir(parents=True)
-        (root / "crates" / name / "src" / "main.rt").write_text(text)
-        lines = [f"{crate}: {' '.join(all_libraries[crate])}" for crate in used]
-        lines.append(f"{name}: {' '.join(crates)} anyhow")
-        (root / "crates.txt").write_text("\n".join(lines) + "\n")
-        run = subprocess.run(["rt", "run", "--jobs", "2"], cwd=root / "crates" / name, capture_output=True, text=True)
+        run = build_driver(pathlib.Path(folder), name, text, [*crates, "anyhow"])
     measured = [line for line in run.stdout.splitlines() if measure in line]
     print("\n".join(measured) if measured else run.stdout + run.stderr)

@@ -9,12 +9,11 @@ temporary repository first, which is not measured.
 
 import os
 import pathlib
-import shutil
 import subprocess
 import sys
 import tempfile
 
-from driver import REPOSITORY, libraries, with_those_below
+from driver import built_driver
 
 DRIVER = """#![tactic(auto)]
 
@@ -269,25 +268,6 @@ fn main(rt: HostRuntime) -> io::Result<()> {
 """
 
 SIZES = [(10_000, 1), (10_000, 4), (100_000, 4), (100_000, 16), (200_000, 16)]
-NAME = "bench_facts"
-
-
-def build(root):
-    """The program, built in a repository of its own."""
-    all_libraries = libraries()
-    used = with_those_below(["fact_layers"], all_libraries)
-    for crate in used:
-        shutil.copytree(REPOSITORY / "crates" / crate, root / "crates" / crate, ignore=shutil.ignore_patterns("out"))
-    (root / "crates" / NAME / "src").mkdir(parents=True)
-    (root / "crates" / NAME / "src" / "main.rt").write_text(DRIVER)
-    lines = [f"{crate}: {' '.join(all_libraries[crate])}" for crate in used]
-    lines.append(f"{NAME}: {' '.join(used)}")
-    (root / "crates.txt").write_text("\n".join(lines) + "\n")
-    run = subprocess.run(["rt", "run", "--jobs", "2"], cwd=root / "crates" / NAME, capture_output=True, text=True)
-    program = root / "crates" / NAME / "out" / NAME
-    if not program.exists():
-        sys.exit(run.stdout + run.stderr)
-    return program
 
 
 def measured(program, kind, nodes, millions):
@@ -312,7 +292,7 @@ def look_ups(rows):
 
 def main():
     with tempfile.TemporaryDirectory() as folder:
-        program = build(pathlib.Path(folder))
+        program = built_driver(pathlib.Path(folder), "bench_facts", DRIVER, ["fact_table", "fact_layers"])
         for nodes, millions in SIZES:
             rows, peak = measured(program, "table", nodes, millions)
             count = rows["insert"][1]

@@ -12,12 +12,11 @@ repository first, which is not measured.
 import os
 import pathlib
 import re
-import shutil
 import subprocess
 import sys
 import tempfile
 
-from driver import REPOSITORY, libraries, with_those_below
+from driver import built_driver
 
 DRIVER = """//! Reads a case, starts it, and tests its rows down the ranks.
 #![tactic(auto)]
@@ -142,27 +141,9 @@ fn main(rt: HostRuntime) -> Result<()> {
 }
 """
 
-CRATES = ["saturate", "case_load", "closed_model", "case_file", "fact_layers", "fact_table", "ofn_axiom", "text_names"]
+CRATES = ["saturate", "case_load", "closed_model", "case_file", "fact_layers", "fact_table", "ofn_axiom", "text_names", "anyhow"]
 NAME = "bench_saturation"
 RUNS = 3
-
-
-def build(root):
-    """The program, built in a repository of its own."""
-    all_libraries = libraries()
-    used = with_those_below(CRATES, all_libraries)
-    for crate in used:
-        shutil.copytree(REPOSITORY / "crates" / crate, root / "crates" / crate, ignore=shutil.ignore_patterns("out"))
-    (root / "crates" / NAME / "src").mkdir(parents=True)
-    (root / "crates" / NAME / "src" / "main.rt").write_text(DRIVER)
-    lines = [f"{crate}: {' '.join(all_libraries[crate])}" for crate in used]
-    lines.append(f"{NAME}: {' '.join(CRATES)} anyhow")
-    (root / "crates.txt").write_text("\n".join(lines) + "\n")
-    run = subprocess.run(["rt", "run", "--jobs", "2"], cwd=root / "crates" / NAME, capture_output=True, text=True)
-    program = root / "crates" / NAME / "out" / NAME
-    if not program.exists():
-        sys.exit(run.stdout + run.stderr)
-    return program
 
 
 def measured(words, case):
@@ -223,7 +204,7 @@ def main():
     sizes = [int(word) for word in sys.argv[2:]] or [1_000, 10_000, 40_000]
     with tempfile.TemporaryDirectory() as folder:
         root = pathlib.Path(folder)
-        program = build(root)
+        program = built_driver(root, NAME, DRIVER, CRATES)
         plain = root / "plain"
         subprocess.run(["c++", "-std=c++17", "-O2", "-o", plain, yardstick / "greedy.cpp"], check=True)
         for classes in sizes:
