@@ -1,6 +1,6 @@
 //! Each kind of axiom, where it holds and where it doesn't, over a small domain and a large one.
 
-use crate::holds_by_lists;
+use crate::{holds_by_lists, model_lists};
 use el_logic::{
     Axiom, Boxed, Expr, Exprs, Interp, MemberLists, Numbers, PairLists, Pairs, is_interpretation,
 };
@@ -109,7 +109,8 @@ fn expect(alloc: Global, i: &Interp, said: Said, wanted: bool) -> Result<(), Fai
         return Err(Fail::from("no interpretation"));
     }
     let found = axiom(alloc, said)?;
-    if holds_by_lists(alloc, i, &found)? == wanted {
+    let lists = model_lists(alloc, i)?;
+    if holds_by_lists(alloc, &lists, &found)? == wanted {
         return Ok(());
     }
     Err(Fail::from((said, i.size)))

@@ -12,21 +12,21 @@ use Rattle.model_members.proofs.classes.+members.Goals as goal
 
 pub returns-in-Top : goal.returns-in-Top
 returns-in-Top t c =
-    subst (λ e. IsSetOf c.args.i.now.size (λ x. IsMember c.args.i.now x e) Whole) (sym c.in-Top.is)
+    subst (λ e. IsSetOf c.args.lists.now.ordered.size (λ x. IsMember c.args.lists.now.ordered x e) Whole) (sym c.in-Top.is)
     (record { ordered = tt; same = λ x. ((λ below. below), (λ below. below)) })
 
 pub returns-in-Bottom : goal.returns-in-Bottom
 returns-in-Bottom t c =
-    subst (λ e. IsSetOf c.args.i.now.size (λ x. IsMember c.args.i.now x e) (Listed c.new.result)) (sym c.in-Bottom.is)
-    (set_none c.args.i.now.size (λ x. IsMember c.args.i.now x Bottom) c.new.result c.new.ensures (λ x member. member))
+    subst (λ e. IsSetOf c.args.lists.now.ordered.size (λ x. IsMember c.args.lists.now.ordered x e) (Listed c.new.result)) (sym c.in-Bottom.is)
+    (set_none c.args.lists.now.ordered.size (λ x. IsMember c.args.lists.now.ordered x Bottom) c.new.result c.new.ensures (λ x member. member))
 
 pub returns-in-Name : goal.returns-in-Name
 returns-in-Name t c =
-    subst (λ e. IfOk c.members_of_name.result (IsSetOf c.args.i.now.size (λ x. IsMember c.args.i.now x e))) (sym c.in-Name.is) c.members_of_name.ensures
+    subst (λ e. IfOk c.members_of_name.result (IsSetOf c.args.lists.now.ordered.size (λ x. IsMember c.args.lists.now.ordered x e))) (sym c.in-Name.is) c.members_of_name.ensures
 
 pub loop-operand-preserved : goal.loop-operand-preserved
 loop-operand-preserved t c =
-    let i = c.args.i.now in
+    let i = c.args.lists.now.ordered in
     let operands = c.as_slice-operand-items.result.now in
     let index = c.loop-operand.operand-index in
     subst (λ (done : List Expr). IsSetOf i.size (λ x. (x < i.size) × All (IsMember i x) done) c.in_ok-both-in-And.both)
@@ -36,7 +36,7 @@ loop-operand-preserved t c =
 
 pub returns-after-loop-operand : goal.returns-after-loop-operand
 returns-after-loop-operand t c =
-    let i = c.args.i.now in
+    let i = c.args.lists.now.ordered in
     let operands = c.in-And.operands in
     let items = c.as_slice-operand-items.result.now in
     let whole : take c.loop-operand.operand-index items ≡ operands = take_all c.loop-operand.operand-index items c.loop-operand-test.false ∙ c.as_slice-operand-items.ensures in
@@ -47,7 +47,7 @@ returns-after-loop-operand t c =
 
 pub returns-in_ok-ends-in-Exists : goal.returns-in_ok-ends-in-Exists
 returns-in_ok-ends-in-Exists t c =
-    let i = c.args.i.now in
+    let i = c.args.lists.now.ordered in
     let role = c.in-Exists.role in
     let filler = c.in-Exists.filler in
     let ends = c.in_ok-ends-in-Exists.ends in
