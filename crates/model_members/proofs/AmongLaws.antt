@@ -4,6 +4,7 @@ use Rattle.std.specs.Prelude.{◌↔◌}
 use Rattle.std.specs.List.{filter}
 use Rattle.std.proofs.lemmas.List.Elements.{All-nil, All-push, All-contains, Contains-push}
 use Rattle.el_logic.specs.declared.types.Expr.{Expr}
+use Rattle.el_logic.specs.declared.types.Expr.TheVariants.{And, Exists}
 use Rattle.el_logic.specs.declared.types.Axiom.TheVariants.{Domain}
 use Rattle.el_logic.specs.declared.types.Interp.{Interp}
 use Rattle.el_logic.specs.Meaning.{IsInterp, IsMember, AreRelated, Holds, pairs_of}
@@ -68,18 +69,48 @@ reached_elements i role numbers reached fits listed =
     (set_listed i.size (λ y. (x : ℕ) × Contains numbers x × AreRelated i role x y) reached listed
     (λ y (x, there, related). (pairs_below i role x y fits related).1)).ordered
 
--- of a restriction, by ends that are just the members of the filler among what is reached
-pub among_leading : (i : Interp) (role : ℕ) (numbers ends kept : List ℕ) (filler : Expr)
+-- those that belong to each operand are the members of the intersection
+pub among_all : (i : Interp) (numbers all : List ℕ) (operands : List Expr) → AreElements i.size numbers
+    → ((x : ℕ) → IsMember i x (And operands) ↔ ((x < i.size) × All (IsMember i x) operands))
+    → AreListed (λ x. Contains numbers x × All (IsMember i x) operands) all → AreListed (λ x. Contains numbers x × IsMember i x (And operands)) all
+among_all i numbers all operands elements means listed =
+    listed_same (λ x. Contains numbers x × All (IsMember i x) operands) (λ x. Contains numbers x × IsMember i x (And operands)) all
+    (λ x. (
+      (λ (there, each). (there, (means x).1 (All-contains (λ y. y < i.size) numbers x elements.1 there, each))),
+      (λ (there, member). (there, ((means x).0 member).1)),
+    ))
+    listed
+
+-- of what is reached from the numbers, the ends are just the members of the filler
+pub ends_found : (i : Interp) (role : ℕ) (steps : List (ℕ × ℕ)) (numbers reached read ends : List ℕ) (filler : Expr) → steps ≡ pairs_of i role
+    → AreListed (λ y. (x : ℕ) × Contains numbers x × Lead steps x y) reached → read ≡ reached → AreListed (λ y. Contains read y × IsMember i y filler) ends
+    → (x y : ℕ) → Contains numbers x → AreRelated i role x y → Contains ends y ↔ IsMember i y filler
+ends_found i role steps numbers reached read ends filler own listed is found x y there related = (
+  (λ ending. ((found.same y).0 ending).1),
+  (λ member. (found.same y).1 (
+    subst (λ (xs : List ℕ). Contains xs y) (sym is) ((listed.same y).1 (x, there, subst (λ (ps : List (ℕ × ℕ)). Lead ps x y) (sym own) related)),
+    member,
+  )),
+)
+
+-- those from which a step leads to one of these ends are the members of the restriction
+pub among_leading : (i : Interp) (role : ℕ) (steps : List (ℕ × ℕ)) (numbers ends kept : List ℕ) (filler : Expr) → steps ≡ pairs_of i role
+    → ((x : ℕ) → IsMember i x (Exists role filler) ↔ ((y : ℕ) × AreRelated i role x y × IsMember i y filler))
     → ((x y : ℕ) → Contains numbers x → AreRelated i role x y → Contains ends y ↔ IsMember i y filler)
-    → AreListed (λ x. Contains numbers x × (y : ℕ) × AreRelated i role x y × Contains ends y) kept
-    → AreListed (λ x. Contains numbers x × (y : ℕ) × AreRelated i role x y × IsMember i y filler) kept
-among_leading i role numbers ends kept filler are listed = record {
-  ascending = listed.ascending;
-  same = λ x. (
-    (λ there. let (has, y, related, ending) = (listed.same x).0 there in (has, y, related, (are x y has related).0 ending)),
-    (λ (has, y, related, member). (listed.same x).1 (has, y, related, (are x y has related).1 member)),
-  );
-}
+    → AreListed (λ x. Contains numbers x × ((y : ℕ) × Lead steps x y × Contains ends y)) kept
+    → AreListed (λ x. Contains numbers x × IsMember i x (Exists role filler)) kept
+among_leading i role steps numbers ends kept filler own means are listed =
+    listed_same (λ x. Contains numbers x × ((y : ℕ) × Lead steps x y × Contains ends y)) (λ x. Contains numbers x × IsMember i x (Exists role filler)) kept
+    (λ x. (
+      (λ (there, leads).
+          let (y, led, ending) = leads in
+          let related : AreRelated i role x y = subst (λ (ps : List (ℕ × ℕ)). Lead ps x y) own led in
+          (there, (means x).1 (y, related, (are x y there related).0 ending))),
+      (λ (there, member).
+          let (y, related, filled) = (means x).0 member in
+          (there, (y, subst (λ (ps : List (ℕ × ℕ)). Lead ps x y) (sym own) related, (are x y there related).1 filled))),
+    ))
+    listed
 
 -- the members of an expression among elements that have them all
 pub set_among : (i : Interp) (e : Expr) (numbers kept : List ℕ) → AreElements i.size numbers → ((x : ℕ) → IsMember i x e → Contains numbers x)

@@ -34,6 +34,13 @@ before_place numbers index y up within (k, inside, is) =
     let less : get_or numbers k 0 < get_or numbers index 0 = AllPairs-from_increasing numbers up k index 0 short within in
     omega (arith, at, less)
 
+-- nothing is kept of none
+pub kept_none : (Q : ℕ → Type 0) (numbers kept : List ℕ) → kept ≡ [] → AreListed (λ x. Contains (take 0 numbers) x × Q x) kept
+kept_none Q numbers kept none = subst (AreListed (λ x. Contains (take 0 numbers) x × Q x)) (sym none) (record {
+  ascending = λ k within. absurd (omega arith);
+  same = λ x. ((λ there. absurd (omega (arith, there.1))), (λ both. absurd (omega (arith, both.0.1))));
+})
+
 module _ (Q : ℕ → Type 0) (numbers : List ℕ) (index : ℕ) (kept : List ℕ) where
   -- one more number that passes
   pub kept_more : IsStrictlyIncreasing numbers → index < length numbers → Q (get_or numbers index 0) → AreListed (λ x. Contains (take index numbers) x × Q x) kept

@@ -47,9 +47,8 @@ pub fn among(
     numbers: &[u32],
     e: &Expr,
 ) -> Result<Numbers, AllocError>
-    requires lists { AreOrdered lists.now }
-    requires elements { AreElements lists.now.ordered.size numbers.now }
-    ensures { IfOk result (AreListed (λ x.
+    requires { AreOrdered lists.now }
+    ensures { AreElements lists.now.ordered.size numbers.now → IfOk result (AreListed (λ x.
         Contains numbers.now x × IsMember lists.now.ordered x e.now)) }
 {
     match e {

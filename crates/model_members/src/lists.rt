@@ -82,10 +82,9 @@ pub fn leading(
     pairs: &[(u32, u32)],
     ends: &[u32],
 ) -> Result<Numbers, AllocError>
-    requires numbers { IsStrictlyIncreasing numbers.now }
     requires pairs { AllPairs ComesBefore pairs.now }
     requires ends { IsStrictlyIncreasing ends.now }
-    ensures { IfOk result (AreListed (λ x. Contains numbers.now x
+    ensures { IsStrictlyIncreasing numbers.now → IfOk result (AreListed (λ x. Contains numbers.now x
         × ((y : ℕ) × Lead pairs.now x y × Contains ends.now y))) }
 {
     let mut kept = Vec::new(alloc);

@@ -17,14 +17,17 @@ returns-in-Some c =
     subst (λ a. IfOk c.is_chain_within.result (λ yes. IsTrue yes ↔ Holds c.args.lists.now.ordered a))
     (ap (λ (chain : List ℕ). SubRole chain c.in-SubRole.upper) (sym c.in-Some.ensures.cases.0 ∙ c.as_slice-in-SubRole.ensures) ∙ sym c.in-SubRole.is) c.is_chain_within.ensures
 
+pub holds-requires : goal.holds-requires
+holds-requires c = c.requires.fits
+
 pub returns-in-EquivalentRoles : goal.returns-in-EquivalentRoles
 returns-in-EquivalentRoles c =
-    subst (λ a. IfOk c.are_equivalent_properties.result (λ yes. IsTrue yes ↔ Holds c.args.lists.now.ordered a))
+    subst (λ a. IsTrue c.are_equivalent_properties.result ↔ Holds c.args.lists.now.ordered a)
     (ap EquivalentRoles c.as_slice-in-EquivalentRoles.ensures ∙ sym c.in-EquivalentRoles.is) c.are_equivalent_properties.ensures
 
 pub returns-in-Transitive : goal.returns-in-Transitive
 returns-in-Transitive c =
-    subst (λ a. IfOk c.is_transitive.result (λ yes. IsTrue yes ↔ Holds c.args.lists.now.ordered a)) (sym c.in-Transitive.is) c.is_transitive.ensures
+    subst (λ a. IsTrue c.is_transitive.result ↔ Holds c.args.lists.now.ordered a) (sym c.in-Transitive.is) c.is_transitive.ensures
 
 pub returns-in-Reflexive : goal.returns-in-Reflexive
 returns-in-Reflexive c =

@@ -16,6 +16,9 @@ loop-operand-init c = record {
   taken = set_none c.args.lists.now.ordered.size (λ x. (e : Expr) × Contains [] e × IsMember c.args.lists.now.ordered x e) c.new.result c.new.ensures (nothing_taken c.args.lists.now.ordered);
 }
 
+pub is_apart-requires-clause-inhabited : goal.is_apart-requires-clause-inhabited
+is_apart-requires-clause-inhabited c = c.requires.fits.inhabited
+
 pub returns-then-not-is_apart : goal.returns-then-not-is_apart
 returns-then-not-is_apart c =
     let i = c.args.lists.now.ordered in

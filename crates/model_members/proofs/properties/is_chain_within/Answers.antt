@@ -24,8 +24,8 @@ returns-in-Some c =
     (wanted_of i upper wanted (first ∷ others) (same_by wanted (pairs_of i upper) c.pairs-wanted.ensures.list)))
     c.is_led_within.ensures
 
-pub returns : goal.returns
-returns c =
+pub returns-in-None : goal.returns-in-None
+returns-in-None c =
     let i = c.args.lists.now.ordered in
     let first = c.args.first in
     let upper = c.args.upper in
