@@ -1,6 +1,7 @@
 use Rattle.std.proofs.Common.{◌≡◌, ◌∙◌, ◌<◌, ℕ, List, All, Contains, take, sym, subst}
 use Rattle.std.specs.Prelude.{IfOk}
 use Rattle.std.specs.List.{filter}
+use Rattle.std.specs.List.Sorted.{IsStrictlyIncreasing}
 use Rattle.std.proofs.lemmas.List.{take_all}
 use Rattle.std.proofs.lemmas.List.Elements.{All-contains}
 use Rattle.std.proofs.lemmas.Result.{IfOk-weaker}
@@ -82,6 +83,16 @@ returns-in-Some t c elements =
     (IfOk-weaker c.leading.result (AreListed (λ x. Contains numbers x × ((y : ℕ) × Lead steps x y × Contains ends y))) (AreListed (λ x. Contains numbers x × IsMember i x (Exists role filler)))
     (λ kept. among_leading i role steps numbers ends kept filler c.pairs-steps.ensures.list (λ x. c.members_of_a_restriction.ensures i x role filler) (λ x y there related. set.same y))
     (c.leading.ensures elements.0))
+
+pub leading-requires-in-None-clause-ends : goal.leading-requires-in-None-clause-ends
+leading-requires-in-None-clause-ends t c =
+    let i = c.args.lists.now.ordered in
+    let numbers = c.args.numbers.now in
+    let reached = c.in_ok-reached-in-None.reached in
+    let read_elements : AreElements i.size c.as_slice-in-None.result.now = subst (AreElements i.size) (sym c.as_slice-in-None.ensures)
+    (reached_elements i c.in-Exists.role numbers reached c.requires.fits
+    (subst (λ (ps : List (ℕ × ℕ)). AreListed (λ y. (x : ℕ) × Contains numbers x × Lead ps x y) reached) c.pairs-steps.ensures.list c.in_ok-reached-in-None.ensures)) in
+    subst IsStrictlyIncreasing (sym c.as_slice-in-None-2.ensures) (c.in_ok-ends-in-None.ensures read_elements).ascending
 
 pub returns-in_ok-ends-in-None : goal.returns-in_ok-ends-in-None
 returns-in_ok-ends-in-None t c elements =

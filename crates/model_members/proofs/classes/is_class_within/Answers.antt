@@ -8,16 +8,16 @@ use Rattle.model_members.proofs.classes.is_class_within.Goals as goal
 
 pub returns-in-Whole : goal.returns-in-Whole
 returns-in-Whole c = (
-  (λ yes x member. (c.in_ok-other.ensures.same x).0 (c.is_within.ensures.0 yes x ((c.in_ok-set.ensures.same x).1 member))),
-  (λ within. c.is_within.ensures.1 (λ x has. (c.in_ok-other.ensures.same x).1 (within x ((c.in_ok-set.ensures.same x).0 has)))),
+  (λ yes x member. (c.in_ok-other-in-Whole.ensures.same x).0 (c.is_within.ensures.0 yes x ((c.in_ok-set.ensures.same x).1 member))),
+  (λ within. c.is_within.ensures.1 (λ x has. (c.in_ok-other-in-Whole.ensures.same x).1 (within x ((c.in_ok-set.ensures.same x).0 has)))),
 )
 
 pub are_members-requires-clause-elements : goal.are_members-requires-clause-elements
 are_members-requires-clause-elements c =
     subst (IsSet c.args.lists.now.ordered.size) (c.in-Listed.is ∙ ap Listed (sym c.as_slice.ensures)) c.in_ok-set.ensures.ordered
 
-pub returns-in-Listed : goal.returns-in-Listed
-returns-in-Listed c =
+pub returns : goal.returns
+returns c =
     let i = c.args.lists.now.ordered in
     let lower = c.args.lower.now in
     let upper = c.args.upper.now in

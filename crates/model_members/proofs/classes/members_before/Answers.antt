@@ -6,8 +6,8 @@ use Rattle.model_members.specs.Inside.Sets.{Has, AreListed, IsSetOf}
 use Rattle.model_members.proofs.AmongLaws.{before_whole, before_listed}
 use Rattle.model_members.proofs.classes.members_before.Goals as goal
 
-pub returns-in-Whole : goal.returns-in-Whole
-returns-in-Whole c =
+pub returns-in_ok-numbers-in-Whole : goal.returns-in_ok-numbers-in-Whole
+returns-in_ok-numbers-in-Whole c =
     let i = c.args.lists.now.ordered in
     let role = c.args.role in
     let numbers = c.in_ok-numbers-in-Whole.numbers in
@@ -15,8 +15,8 @@ returns-in-Whole c =
     (before_whole i role numbers c.requires.lists.fits
     (subst (λ (ps : List (ℕ × ℕ)). AreListed (λ x. (y : ℕ) × Lead ps x y) numbers) c.pairs.ensures.list c.in_ok-numbers-in-Whole.ensures))
 
-pub returns-in-Listed : goal.returns-in-Listed
-returns-in-Listed c =
+pub returns-in_ok-numbers-in-Listed : goal.returns-in_ok-numbers-in-Listed
+returns-in_ok-numbers-in-Listed c =
     let i = c.args.lists.now.ordered in
     let role = c.args.role in
     let ends = c.as_slice.result.now in

@@ -28,4 +28,4 @@ returns c up =
 pub loop-x-init : goal.loop-x-init
 loop-x-init c up =
     let Leads : ℕ → Type 0 = λ x. (y : ℕ) × Lead c.args.pairs.now x y × Contains c.args.ends.now y in
-    kept_none Leads c.args.numbers.now c.new.result.items c.new.ensures.items
+    kept_none Leads c.args.numbers.now c.new-kept.result.items c.new-kept.ensures.items
