@@ -1,22 +1,23 @@
 -- The first axiom that doesn't hold, and the first class without a member.
 use Rattle.std.proofs.Common.{◌≡◌, ℕ, zero, suc, ◌+◌, ◌<◌, ◌≤◌, List, [], ◌∷◌, ◌++◌, take, length, All, Contains, Option, Some, None, slice_get, append_assoc, ◌^◌, refl, sym, ap, subst, inl, inr, ⊎_elim, arith}
-use Rattle.std.specs.Prelude.{slice_index, flat_map}
+use Rattle.std.specs.Prelude.{◌↔◌, slice_index, flat_map}
 use Rattle.std.proofs.lemmas.Bool.{cases_lt}
 use Rattle.std.proofs.lemmas.List.{get_or-map}
 use Rattle.std.proofs.lemmas.Option.{none-some, same_Some, slice_get_within}
 use Rattle.std.proofs.lemmas.List.Elements.{All-head, All-tail, All-append, All-get_or, All-weaker, All-contains, All-contains_itself, Contains-append_left, Contains-append_right}
 use Rattle.el_logic.specs.declared.types.Axiom.{Axiom}
 use Rattle.el_logic.specs.declared.types.Interp.{Interp}
+use Rattle.el_logic.specs.declared.types.Part.{Part}
 use Rattle.el_logic.specs.Meaning.{IsInterp, IsMember, Holds, members_of}
 use Rattle.fact_table.specs.declared.types.Source.{Source}
 use Rattle.case_file.specs.Cases.{CaseView, IsCase, IsMustHave, row_at}
-use Rattle.case_file.specs.Incoherence.{name_of, axioms_of_ranks}
+use Rattle.case_file.specs.Incoherence.{name_of, axioms_of_ranks, axioms_for}
 use Rattle.case_tables.specs.Keyed.{numbered_from}
 use Rattle.concept_store.specs.declared.types.Node.TheVariants.{Class}
 use Rattle.concept_store.specs.Order.{AreInOrder}
 use Rattle.concept_store.specs.Roles.{AreOver}
 use Rattle.model_check.specs.Inside.Lists.{FindsFailingRow, FindsFailingOf}
-use Rattle.model_check.specs.Faults.{IsFirstFailing, IsFirstEmpty, row_ranked}
+use Rattle.model_check.specs.Faults.{IsFirstFailing, IsFirstEmpty, row_ranked, sourced_axioms}
 
 module _ (i : Interp) where
   -- an axiom that doesn't hold after others that hold is the first
@@ -141,3 +142,26 @@ pub class_fits : (case : CaseView) (nodes class : ℕ) → nodes ≡ length case
 class_fits case nodes class same small order below =
     let within = slice_get_within case.store.nodes (class + 2) (Class class) (order.names class below) in
     omega arith
+
+-- an interpretation of some names has a list for each of its own
+pub own_counts : (classes properties : ℕ) (i : Interp) → IsInterp classes properties i → IsInterp (length i.classes) (length i.roles) i
+own_counts classes properties i fits = record {
+  inhabited = fits.inhabited;
+  each_class = refl;
+  each_role = refl;
+  members_below = fits.members_below;
+  pairs_below = fits.pairs_below;
+}
+
+-- the first axiom that fails in one interpretation fails first in another that means the same
+failing_over : (i j : Interp) → ((a : Axiom) → Holds i a ↔ Holds j a) → (sourced : List (Source × Axiom)) (source : Source) → IsFirstFailing i sourced source → IsFirstFailing j sourced source
+failing_over i j means [] source first = absurd first
+failing_over i j means (one ∷ sourced) source first = ⊎_elim
+    (λ here. inl ((λ holds. here.0 ((means one.1).1 holds)), here.1))
+    (λ later. inr ((means one.1).0 later.0, failing_over i j means sourced source later.1))
+    first
+
+-- and so of both documents and the rows
+pub finds_over : (case : CaseView) (i j : Interp) (ranks : List ℕ) → ((a : Axiom) → Holds i a ↔ Holds j a) → (found : Option Source) → FindsFailingOf case i ranks found → FindsFailingOf case j ranks found
+finds_over case i j ranks means None all = All-weaker (Holds i) (Holds j) (λ a. (means a).0) (axioms_for case Part.Both ranks) all
+finds_over case i j ranks means (Some source) first = failing_over i j means (sourced_axioms case ranks) source first

@@ -4,6 +4,7 @@ ghost use Rattle.std.specs.Prelude.{◌≡◌, ◌<◌, ◌^◌, length, All, If
 ghost use Rattle.el_logic.specs.Meaning.{IsInterp};
 ghost use Rattle.case_file.specs.Cases.{AreRanksOf};
 ghost use Rattle.closed_model.specs.Models.{IsModelFor};
+ghost use Rattle.model_members.specs.Lists.{AreOrdered};
 ghost use Rattle.model_check.specs.Faults.{IsModelFault};
 ghost use Rattle.model_check.specs.Inside.Lists.{source_at, FindsFailing, FindsFailingRow, FindsFailingOf, FindsEmpty};
 
@@ -12,7 +13,7 @@ use case_file::Case;
 use concept_store::nodes_stand_in_order;
 use el_logic::{Axiom, Interp, is_interpretation};
 use fact_table::Source;
-use model_members::{has_number, holds_by_lists};
+use model_members::{ModelLists, has_number, holds_by_lists, model_lists};
 use std::alloc::{AllocError, Global};
 
 // Where axioms are from.
@@ -37,18 +38,18 @@ fn source_at(origin: Origin, number: u32) -> Source
 // The first of the axioms from there that doesn't hold.
 fn first_failing(
     alloc: Global,
-    i: &Interp,
+    lists: &ModelLists,
     origin: Origin,
     axioms: &[Axiom],
 ) -> Result<Option<Source>, AllocError>
-    requires fits { IsInterp (length i.now.classes) (length i.now.roles) i.now }
+    requires lists { AreOrdered lists.now }
     requires few { length axioms.now < 2 ^ 32 }
-    ensures { IfOk result (FindsFailing i.now origin axioms.now) }
+    ensures { IfOk result (FindsFailing lists.now.ordered origin axioms.now) }
 {
     let mut number = 0u32;
     for axiom in axioms {
         number += 1;
-        let holds = holds_by_lists(alloc, i, axiom)?;
+        let holds = holds_by_lists(alloc, lists, axiom)?;
         if !holds {
             return Ok(Some(source_at(origin, number)));
         }
@@ -60,18 +61,18 @@ fn first_failing(
 fn first_failing_row(
     alloc: Global,
     case: &Case,
-    i: &Interp,
+    lists: &ModelLists,
     ranks: &[u32],
 ) -> Result<Option<Source>, AllocError>
-    requires fits { IsInterp case.now.classes case.now.properties i.now }
+    requires lists { AreOrdered lists.now }
     requires ranks { All (λ rank. rank < length case.now.order) ranks.now }
-    ensures { IfOk result (FindsFailingRow case.now i.now ranks.now) }
+    ensures { IfOk result (FindsFailingRow case.now lists.now.ordered ranks.now) }
 {
     let _case = case.store();
     for rank in ranks {
         let failing = first_failing(
             alloc,
-            i,
+            lists,
             Origin::Row(*rank),
             case.axioms_of(*rank).as_slice(),
         )?;
@@ -87,25 +88,40 @@ fn first_failing_row(
 fn first_failing_of(
     alloc: Global,
     case: &Case,
-    i: &Interp,
+    lists: &ModelLists,
     ranks: &[u32],
 ) -> Result<Option<Source>, AllocError>
-    requires fits { IsInterp case.now.classes case.now.properties i.now }
+    requires lists { AreOrdered lists.now }
     requires ranks { All (λ rank. rank < length case.now.order) ranks.now }
-    ensures { IfOk result (FindsFailingOf case.now i.now ranks.now) }
+    ensures { IfOk result (FindsFailingOf case.now lists.now.ordered ranks.now) }
 {
     let _case = case.store();
-    let of_left = first_failing(alloc, i, Origin::Left, case.left().as_slice())?;
+    let of_left = first_failing(alloc, lists, Origin::Left, case.left().as_slice())?;
     match of_left {
         Some(source) => return Ok(Some(source)),
         None => {}
     }
-    let of_right = first_failing(alloc, i, Origin::Right, case.right().as_slice())?;
+    let of_right = first_failing(alloc, lists, Origin::Right, case.right().as_slice())?;
     match of_right {
         Some(source) => return Ok(Some(source)),
         None => {}
     }
-    first_failing_row(alloc, case, i, ranks)
+    first_failing_row(alloc, case, lists, ranks)
+}
+
+// The same of a model, whose lists are put in order once.
+fn first_failing_in(
+    alloc: Global,
+    case: &Case,
+    model: &Interp,
+    ranks: &[u32],
+) -> Result<Option<Source>, AllocError>
+    requires fits { IsInterp case.now.classes case.now.properties model.now }
+    requires ranks { All (λ rank. rank < length case.now.order) ranks.now }
+    ensures { IfOk result (FindsFailingOf case.now model.now ranks.now) }
+{
+    let lists = model_lists(alloc, model)?;
+    first_failing_of(alloc, case, &lists, ranks)
 }
 
 // The first node that must have a member and has none.
@@ -131,8 +147,9 @@ fn first_empty(case: &Case, i: &Interp) -> Option<u32>
 
 /// Whether an interpretation is a model of the case for these ranks. The first fault in this order
 /// is answered: its form, the first axiom of LEFT, RIGHT and the rows with the ranks that doesn't
-/// hold, the first class that must have a member and has none. The domain is never walked or
-/// listed, however large it is: an axiom costs about the lists of the names that occur in it.
+/// hold, the first class that must have a member and has none. The lists of the model are sorted
+/// once. The domain is never walked or listed, however large it is: an inclusion of classes costs
+/// about the members of its lower class and the pairs that begin at them.
 pub fn check_model(
     alloc: Global,
     case: &Case,
@@ -146,7 +163,7 @@ pub fn check_model(
     if !is_interpretation(model, case.classes(), case.properties()) {
         return Err(ModelFault::Form);
     }
-    let failing = match first_failing_of(alloc, case, model, ranks) {
+    let failing = match first_failing_in(alloc, case, model, ranks) {
         Ok(failing) => failing,
         Err(_) => return Err(ModelFault::OutOfMemory),
     };

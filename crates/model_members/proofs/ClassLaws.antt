@@ -60,7 +60,7 @@ set_start i = record {
 }
 
 -- what holds of more holds of those before
-front_of : (P : Expr → Type 0) (done : List Expr) (next : Expr) → All P (done ++ next ∷ []) → All P done
+pub front_of : (P : Expr → Type 0) (done : List Expr) (next : Expr) → All P (done ++ next ∷ []) → All P done
 front_of P done next all =
     All-weaker (Contains done) P (λ e there. All-contains P (done ++ next ∷ []) e all (Contains-append_left done (next ∷ []) e there)) done (All-contains_itself done)
 

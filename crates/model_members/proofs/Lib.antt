@@ -6,3 +6,7 @@ pub mod PairSteps
 pub mod ListSteps
 pub mod ClassLaws
 pub mod PropertyLaws
+pub mod KeyLaws
+pub mod KeptLaws
+pub mod AmongLaws
+pub mod SameModels

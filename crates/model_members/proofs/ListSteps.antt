@@ -74,3 +74,58 @@ more_joins steps found more done group pair so_far grouped added x y = (
       (λ new. (added x y).1 (inr (sym (ap (λ (p : ℕ × ℕ). p.0) new), z, (grouped z y).1 (sym (ap (λ (p : ℕ × ℕ). p.1) new), step))))
       (Contains-push_cases done pair (x, z) led)),
 )
+
+-- where the pairs begin
+abbrev pub Firsts : List ℕ → List (ℕ × ℕ) → Type 0
+Firsts found done = (x : ℕ) → Contains found x ↔ ((y : ℕ) × Lead done x y)
+
+-- one pair more
+pub more_firsts : (found : List ℕ) (done : List (ℕ × ℕ)) (pair : ℕ × ℕ) → Firsts found done → Firsts (found ++ pair.0 ∷ []) (done ++ pair ∷ [])
+more_firsts found done pair so_far x = (
+  (λ there. ⊎_elim
+      (λ old. let (y, led) = (so_far x).0 old in (y, Contains-append_left done (pair ∷ []) (x, y) led))
+      (λ new. (pair.1, subst (λ begin. Lead (done ++ pair ∷ []) begin pair.1) new (Contains-push done pair)))
+      (Contains-push_cases found pair.0 x there)),
+  (λ (y, led). ⊎_elim
+      (λ old. Contains-append_left found (pair.0 ∷ []) x ((so_far x).1 (y, old)))
+      (λ new. subst (λ begin. Contains (found ++ pair.0 ∷ []) begin) (ap (λ (p : ℕ × ℕ). p.0) new) (Contains-push found pair.0))
+      (Contains-push_cases done pair (x, y) led)),
+)
+
+-- what was there, and where the steps end
+abbrev pub Seconds : List ℕ → List ℕ → List (ℕ × ℕ) → Type 0
+Seconds start found done = (y : ℕ) → Contains found y ↔ (Contains start y ⊎ ((x : ℕ) × Lead done x y))
+
+-- one step more
+pub more_seconds : (start found : List ℕ) (done : List (ℕ × ℕ)) (step : ℕ × ℕ) → Seconds start found done → Seconds start (found ++ step.1 ∷ []) (done ++ step ∷ [])
+more_seconds start found done step so_far y = (
+  (λ there. ⊎_elim
+      (λ old. ⊎_elim (λ was. inl was) (λ (x, led). inr (x, Contains-append_left done (step ∷ []) (x, y) led)) ((so_far y).0 old))
+      (λ new. inr (step.0, subst (λ end. Lead (done ++ step ∷ []) step.0 end) new (Contains-push done step)))
+      (Contains-push_cases found step.1 y there)),
+  (λ told. ⊎_elim
+      (λ was. Contains-append_left found (step.1 ∷ []) y ((so_far y).1 (inl was)))
+      (λ (x, led). ⊎_elim
+      (λ old. Contains-append_left found (step.1 ∷ []) y ((so_far y).1 (inr (x, old))))
+      (λ new. subst (λ end. Contains (found ++ step.1 ∷ []) end) (ap (λ (p : ℕ × ℕ). p.1) new) (Contains-push found step.1))
+      (Contains-push_cases done step (x, y) led))
+      told),
+)
+
+-- where the pairs end that begin at one of these
+abbrev pub Reached : List (ℕ × ℕ) → List ℕ → List ℕ → Type 0
+Reached pairs found done = (y : ℕ) → Contains found y ↔ ((x : ℕ) × Contains done x × Lead pairs x y)
+
+-- from one number more
+pub more_reached : (pairs : List (ℕ × ℕ)) (found more done : List ℕ) (group : List (ℕ × ℕ)) (from : ℕ) → Reached pairs found done
+    → ((x y : ℕ) → Lead group x y ↔ ((x ≡ from) × Lead pairs x y)) → Seconds found more group → Reached pairs more (done ++ from ∷ [])
+more_reached pairs found more done group from so_far grouped added y = (
+  (λ there. ⊎_elim
+      (λ old. let (x, begins, led) = (so_far y).0 old in (x, Contains-append_left done (from ∷ []) x begins, led))
+      (λ (x, in_group). let (is, led) = (grouped x y).0 in_group in (x, subst (Contains (done ++ from ∷ [])) (sym is) (Contains-push done from), led))
+      ((added y).0 there)),
+  (λ (x, begins, led). ⊎_elim
+      (λ old. (added y).1 (inl ((so_far y).1 (x, old, led))))
+      (λ new. (added y).1 (inr (x, (grouped x y).1 (sym new, led))))
+      (Contains-push_cases done from x begins)),
+)

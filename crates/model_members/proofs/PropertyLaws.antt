@@ -79,9 +79,9 @@ all_same_pairs i pairs operands same =
     All-weaker (HasPairs i pairs) (λ r. All (λ s. (x y : ℕ) → AreRelated i r x y → AreRelated i s x y) operands)
     (λ r of_r. All-weaker (HasPairs i pairs) (λ s. (x y : ℕ) → AreRelated i r x y → AreRelated i s x y) (λ s of_s x y related. (of_s x y).0 ((of_r x y).1 related)) operands same) operands same
 
--- what is the same as a list is the same as what that is
-pub same_at : (slice list named own : List (ℕ × ℕ)) → slice ≡ list → HaveTheSame list named → named ≡ own → HaveTheSame slice own
-same_at slice list named own is same names = subst (λ (ps : List (ℕ × ℕ)). HaveTheSame ps own) (sym is) (subst (λ (ps : List (ℕ × ℕ)). HaveTheSame list ps) names same)
+-- a list has the same pairs as what it is
+pub same_by : (pairs own : List (ℕ × ℕ)) → pairs ≡ own → HaveTheSame pairs own
+same_by pairs own is = subst (λ (ps : List (ℕ × ℕ)). HaveTheSame ps own) (sym is) (λ p. ((λ there. there), (λ there. there)))
 
 -- what one answer tells, it tells of what means the same
 pub through : {P Q R : Type 0} → (P ↔ Q) → (Q ↔ R) → (P ↔ R)

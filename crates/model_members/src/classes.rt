@@ -1,80 +1,88 @@
 //! The members of class expressions, and axioms over classes.
 
-ghost use Rattle.std.specs.Prelude.{◌≡◌, ◌↔◌, ◌<◌, ◌⊎◌, ℕ, length, All, Contains, IsTrue, IfOk};
+ghost use Rattle.std.specs.Prelude.{◌↔◌, ◌⊎◌, ℕ, All, Contains, IsTrue, IfOk};
 ghost use Rattle.el_logic.specs.declared.types.Axiom.TheVariants.{Equivalent, Disjoint, Domain};
-ghost use Rattle.el_logic.specs.Meaning.{IsInterp, IsMember, IsWithin, Holds, AreRelated, members_of};
-ghost use Rattle.model_members.specs.Inside.Pairs.{Lead};
+ghost use Rattle.el_logic.specs.Meaning.{IsMember, IsWithin, Holds, AreRelated, members_of};
+ghost use Rattle.model_members.specs.Lists.{AreOrdered};
 ghost use Rattle.model_members.specs.Inside.Sets.{Has, HasMembers, IsSet, IsSetOf};
 
-use crate::lists::{begins, either};
-use crate::properties::pairs;
-use crate::sets::{Members, intersection, is_apart, is_in, is_within};
-use closed_model::ordered_numbers;
+use crate::ModelLists;
+use crate::among::{among, are_members, first_named};
+use crate::lists::{begins, either, targets};
+use crate::model::{named, pairs, turned};
+use crate::sets::{Members, intersection, is_apart, is_within};
 use el_logic::{
-    Expr, Interp, Numbers, equivalent_classes_have_the_same_members, members_are_elements,
-    members_of_a_restriction, members_of_an_intersection,
+    Expr, Numbers, equivalent_classes_have_the_same_members, members_of_a_restriction,
+    members_of_an_intersection,
 };
 use std::alloc::{AllocError, Global};
 
-// The members of a class name, in the order of their list.
-fn named(i: &Interp, class: u32) -> &[u32]
-    ensures { result.now ≡ members_of i.now class }
-{
-    match i.classes.as_slice().get(class as usize) {
-        Some(list) => list.as_slice(),
-        None => &[],
-    }
-}
-
 // The set of the members of a class name.
-fn members_of_name(alloc: Global, i: &Interp, class: u32) -> Result<Members, AllocError>
-    requires { IsInterp (length i.now.classes) (length i.now.roles) i.now }
-    ensures { IfOk result (IsSetOf i.now.size (Contains (members_of i.now class))) }
+fn members_of_name(alloc: Global, lists: &ModelLists, class: u32) -> Result<Members, AllocError>
+    requires { AreOrdered lists.now }
+    ensures { IfOk result (let model = lists.now.ordered in
+        IsSetOf model.size (Contains (members_of model class))) }
 {
-    members_are_elements();
-    let numbers = ordered_numbers(alloc, named(i, class))?;
+    let numbers = Numbers::from_slice(alloc, named(lists, class))?;
     Ok(Members::Listed(numbers))
 }
 
 // The set of the elements that a property leads from to one of the set.
 fn members_before(
     alloc: Global,
-    i: &Interp,
+    lists: &ModelLists,
     role: u32,
     ends: &Members,
 ) -> Result<Members, AllocError>
-    requires fits { IsInterp (length i.now.classes) (length i.now.roles) i.now }
-    requires set { IsSet i.now.size ends.now }
-    ensures { IfOk result (IsSetOf i.now.size
-        (λ x. (y : ℕ) × AreRelated i.now role x y × Has i.now.size ends.now y)) }
+    requires lists { AreOrdered lists.now }
+    requires set { IsSet lists.now.ordered.size ends.now }
+    ensures { IfOk result (let model = lists.now.ordered in IsSetOf model.size
+        (λ x. (y : ℕ) × AreRelated model role x y × Has model.size ends.now y)) }
 {
-    let numbers = begins(alloc, i.size, pairs(i, role), ends)?;
-    Ok(Members::Listed(numbers))
+    match ends {
+        Members::Whole => {
+            let numbers = begins(alloc, pairs(lists, role))?;
+            Ok(Members::Listed(numbers))
+        }
+        Members::Listed(listed) => {
+            let numbers = targets(alloc, turned(lists, role), listed.as_slice())?;
+            Ok(Members::Listed(numbers))
+        }
+    }
 }
 
 // The set of the members of an expression.
-fn members(alloc: Global, i: &Interp, e: &Expr) -> Result<Members, AllocError>
-    requires { IsInterp (length i.now.classes) (length i.now.roles) i.now }
-    ensures { IfOk result (IsSetOf i.now.size (λ x. IsMember i.now x e.now)) }
+fn members(alloc: Global, lists: &ModelLists, e: &Expr) -> Result<Members, AllocError>
+    requires { AreOrdered lists.now }
+    ensures { IfOk result (let model = lists.now.ordered in
+        IsSetOf model.size (λ x. IsMember model x e.now)) }
 {
     match e {
         Expr::Top => Ok(Members::Whole),
         Expr::Bottom => Ok(Members::Listed(Numbers::new(alloc))),
-        Expr::Name(class) => members_of_name(alloc, i, *class),
+        Expr::Name(class) => members_of_name(alloc, lists, *class),
         Expr::And(operands) => {
-            let mut all = Members::Whole;
-            for operand in operands.as_slice() {
-                let next = members(alloc, i, operand)?;
-                let both = intersection(alloc, i.size, all, next)?;
-                all = both;
-            }
             members_of_an_intersection();
-            Ok(all)
+            match first_named(lists, operands.as_slice()) {
+                Some(numbers) => {
+                    let kept = among(alloc, lists, numbers, e)?;
+                    Ok(Members::Listed(kept))
+                }
+                None => {
+                    let mut all = Members::Whole;
+                    for operand in operands.as_slice() {
+                        let next = members(alloc, lists, operand)?;
+                        let both = intersection(alloc, lists.ordered.size, all, next)?;
+                        all = both;
+                    }
+                    Ok(all)
+                }
+            }
         }
         Expr::Exists(role, filler) => {
             members_of_a_restriction();
-            let ends = members(alloc, i, filler.get())?;
-            members_before(alloc, i, *role, &ends)
+            let ends = members(alloc, lists, filler.get())?;
+            members_before(alloc, lists, *role, &ends)
         }
     }
 }
@@ -82,44 +90,55 @@ fn members(alloc: Global, i: &Interp, e: &Expr) -> Result<Members, AllocError>
 // Whether every member of the first expression is one of the second.
 pub fn is_class_within(
     alloc: Global,
-    i: &Interp,
+    lists: &ModelLists,
     lower: &Expr,
     upper: &Expr,
 ) -> Result<bool, AllocError>
-    requires { IsInterp (length i.now.classes) (length i.now.roles) i.now }
-    ensures { IfOk result (λ yes. IsTrue yes ↔ IsWithin i.now lower.now upper.now) }
+    requires { AreOrdered lists.now }
+    ensures { IfOk result (λ yes. IsTrue yes
+        ↔ IsWithin lists.now.ordered lower.now upper.now) }
 {
-    let set = members(alloc, i, lower)?;
-    let other = members(alloc, i, upper)?;
-    Ok(is_within(i.size, &set, &other))
+    let set = members(alloc, lists, lower)?;
+    match &set {
+        Members::Whole => {
+            let other = members(alloc, lists, upper)?;
+            Ok(is_within(lists.ordered.size, &set, &other))
+        }
+        Members::Listed(numbers) => are_members(alloc, lists, numbers.as_slice(), upper),
+    }
 }
 
 // Whether an expression has just the members of the set.
-fn has_members(alloc: Global, i: &Interp, set: &Members, e: &Expr) -> Result<bool, AllocError>
-    requires fits { IsInterp (length i.now.classes) (length i.now.roles) i.now }
-    requires set { IsSet i.now.size set.now }
-    ensures { IfOk result (λ yes. IsTrue yes ↔ HasMembers i.now set.now e.now) }
+fn has_members(
+    alloc: Global,
+    lists: &ModelLists,
+    set: &Members,
+    e: &Expr,
+) -> Result<bool, AllocError>
+    requires lists { AreOrdered lists.now }
+    requires set { IsSet lists.now.ordered.size set.now }
+    ensures { IfOk result (λ yes. IsTrue yes ↔ HasMembers lists.now.ordered set.now e.now) }
 {
-    let other = members(alloc, i, e)?;
-    if !is_within(i.size, set, &other) {
+    let other = members(alloc, lists, e)?;
+    if !is_within(lists.ordered.size, set, &other) {
         return Ok(false);
     }
-    Ok(is_within(i.size, &other, set))
+    Ok(is_within(lists.ordered.size, &other, set))
 }
 
 // Whether each expression has just the members of the set.
 fn each_has_members(
     alloc: Global,
-    i: &Interp,
+    lists: &ModelLists,
     set: &Members,
     operands: &[Expr],
 ) -> Result<bool, AllocError>
-    requires fits { IsInterp (length i.now.classes) (length i.now.roles) i.now }
-    requires set { IsSet i.now.size set.now }
-    ensures { IfOk result (λ yes. IsTrue yes ↔ All (HasMembers i.now set.now) operands.now) }
+    requires lists { AreOrdered lists.now }
+    requires set { IsSet lists.now.ordered.size set.now }
+    ensures { IfOk result (λ yes. IsTrue yes ↔ All (HasMembers lists.now.ordered set.now) operands.now) }
 {
     for operand in operands {
-        let same = has_members(alloc, i, set, operand)?;
+        let same = has_members(alloc, lists, set, operand)?;
         if !same {
             return Ok(false);
         }
@@ -128,16 +147,20 @@ fn each_has_members(
 }
 
 // Whether all expressions have the same members.
-pub fn are_equivalent(alloc: Global, i: &Interp, operands: &[Expr]) -> Result<bool, AllocError>
-    requires { IsInterp (length i.now.classes) (length i.now.roles) i.now }
-    ensures { IfOk result (λ yes. IsTrue yes ↔ Holds i.now (Equivalent operands.now)) }
+pub fn are_equivalent(
+    alloc: Global,
+    lists: &ModelLists,
+    operands: &[Expr],
+) -> Result<bool, AllocError>
+    requires { AreOrdered lists.now }
+    ensures { IfOk result (λ yes. IsTrue yes ↔ Holds lists.now.ordered (Equivalent operands.now)) }
 {
     let Some(first) = operands.first() else {
         return Ok(true);
     };
     equivalent_classes_have_the_same_members();
-    let set = members(alloc, i, first)?;
-    each_has_members(alloc, i, &set, operands)
+    let set = members(alloc, lists, first)?;
+    each_has_members(alloc, lists, &set, operands)
 }
 
 // The elements of both sets together.
@@ -156,14 +179,18 @@ fn union(alloc: Global, set: Members, other: Members) -> Result<Members, AllocEr
 }
 
 // Whether no element belongs to expressions at two positions.
-pub fn are_disjoint(alloc: Global, i: &Interp, operands: &[Expr]) -> Result<bool, AllocError>
-    requires { IsInterp (length i.now.classes) (length i.now.roles) i.now }
-    ensures { IfOk result (λ yes. IsTrue yes ↔ Holds i.now (Disjoint operands.now)) }
+pub fn are_disjoint(
+    alloc: Global,
+    lists: &ModelLists,
+    operands: &[Expr],
+) -> Result<bool, AllocError>
+    requires { AreOrdered lists.now }
+    ensures { IfOk result (λ yes. IsTrue yes ↔ Holds lists.now.ordered (Disjoint operands.now)) }
 {
     let mut taken = Members::Listed(Numbers::new(alloc));
     for operand in operands {
-        let next = members(alloc, i, operand)?;
-        if !is_apart(i.size, &taken, &next) {
+        let next = members(alloc, lists, operand)?;
+        if !is_apart(lists.ordered.size, &taken, &next) {
             return Ok(false);
         }
         let both = union(alloc, taken, next)?;
@@ -172,24 +199,17 @@ pub fn are_disjoint(alloc: Global, i: &Interp, operands: &[Expr]) -> Result<bool
     Ok(true)
 }
 
-// Whether all pairs begin at one of the set.
-fn begin_within(size: u32, pairs: &[(u32, u32)], set: &Members) -> bool
-    requires { IsSet size set.now }
-    ensures { IsTrue result ↔ ((x y : ℕ) → Lead pairs.now x y → Has size set.now x) }
-{
-    for (from, _) in pairs {
-        if !is_in(size, set, *from) {
-            return false;
-        }
-    }
-    true
-}
-
 // Whether every element that the property leads on from belongs to the class.
-pub fn has_domain(alloc: Global, i: &Interp, role: u32, class: &Expr) -> Result<bool, AllocError>
-    requires { IsInterp (length i.now.classes) (length i.now.roles) i.now }
-    ensures { IfOk result (λ yes. IsTrue yes ↔ Holds i.now (Domain role class.now)) }
+pub fn has_domain(
+    alloc: Global,
+    lists: &ModelLists,
+    role: u32,
+    class: &Expr,
+) -> Result<bool, AllocError>
+    requires { AreOrdered lists.now }
+    ensures { IfOk result (λ yes. IsTrue yes
+        ↔ Holds lists.now.ordered (Domain role class.now)) }
 {
-    let set = members(alloc, i, class)?;
-    Ok(begin_within(i.size, pairs(i, role), &set))
+    let numbers = begins(alloc, pairs(lists, role))?;
+    are_members(alloc, lists, numbers.as_slice(), class)
 }

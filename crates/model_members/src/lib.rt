@@ -1,9 +1,11 @@
 //! Axioms tested by ascending lists of members, without a walk over the domain.
 #![tactic(auto)]
 
+mod among;
 mod axioms;
 mod classes;
 mod lists;
+mod model;
 mod numbers;
 mod pairs;
 mod properties;
@@ -12,4 +14,5 @@ mod sets;
 mod tests;
 
 pub use axioms::holds_by_lists;
+pub use model::{ModelLists, model_lists};
 pub use numbers::has_number;

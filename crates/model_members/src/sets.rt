@@ -3,7 +3,7 @@
 ghost use Rattle.std.specs.Prelude.{◌≡◌, ◌↔◌, ◌<◌, ◌≤◌, ◌⊎◌, ℕ, length, All, Contains, IsTrue, IfOk};
 ghost use Rattle.model_members.specs.Inside.Sets.{Has, IsSet, IsSetOf};
 
-use crate::numbers::{are_among, are_apart, are_whole, common, has_number};
+use crate::numbers::{are_among, are_apart, are_whole, common};
 use el_logic::Numbers;
 use std::alloc::{AllocError, Global};
 
@@ -14,17 +14,6 @@ pub enum Members {
     Whole,
     /// These, in ascending order.
     Listed(Numbers),
-}
-
-// Whether the element is one of the set.
-pub fn is_in(size: u32, set: &Members, x: u32) -> bool
-    requires { IsSet size set.now }
-    ensures { IsTrue result ↔ Has size set.now x }
-{
-    match set {
-        Members::Whole => x < size,
-        Members::Listed(numbers) => has_number(numbers.as_slice(), x),
-    }
 }
 
 // Whether each element of the first set is one of the other.

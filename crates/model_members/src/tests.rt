@@ -1,6 +1,6 @@
 //! Each kind of axiom, where it holds and where it doesn't, over a small domain and a large one.
 
-use crate::holds_by_lists;
+use crate::{holds_by_lists, model_lists};
 use el_logic::{
     Axiom, Boxed, Expr, Exprs, Interp, MemberLists, Numbers, PairLists, Pairs, is_interpretation,
 };
@@ -8,7 +8,8 @@ use std::alloc::{AllocError, Global};
 use std::test::Fail;
 
 // What an axiom says, of numbered classes and properties. The class 9 is `owl:Thing`, and a class
-// from 10 on is what the property 0 leads from to the class that is 10 less.
+// from 10 on is what the property 0 leads from to the class that is 10 less. One from 20 on has the
+// members of the class that is 20 less from which the property leads in two steps to the class 1.
 #[derive(Clone, Copy, Debug)]
 enum Said<'a> {
     Within(u32, u32),
@@ -21,6 +22,14 @@ enum Said<'a> {
     Domain(u32, u32),
 }
 
+fn two_steps_within(alloc: Global, number: u32) -> Result<Expr, AllocError> {
+    let last = Expr::Exists(0, Boxed::new(alloc, Expr::Name(1))?);
+    let mut operands = Exprs::new(alloc);
+    operands.push(Expr::Exists(0, Boxed::new(alloc, last)?))?;
+    operands.push(Expr::Name(number))?;
+    Ok(Expr::And(operands))
+}
+
 fn class(alloc: Global, number: u32) -> Result<Expr, AllocError> {
     if number == 9 {
         return Ok(Expr::Top);
@@ -28,7 +37,10 @@ fn class(alloc: Global, number: u32) -> Result<Expr, AllocError> {
     if number < 10 {
         return Ok(Expr::Name(number));
     }
-    Ok(Expr::Exists(0, Boxed::new(alloc, Expr::Name(number - 10))?))
+    if number < 20 {
+        return Ok(Expr::Exists(0, Boxed::new(alloc, Expr::Name(number - 10))?));
+    }
+    two_steps_within(alloc, number - 20)
 }
 
 fn classes(alloc: Global, numbers: &[u32]) -> Result<Exprs, AllocError> {
@@ -78,14 +90,19 @@ fn interpretation(alloc: Global, size: u32) -> Result<Interp, AllocError> {
 }
 
 // What is said, and whether it holds over five elements and over as many as there can be.
-const ROWS: [(Said, bool, bool); 23] = [
+const ROWS: [(Said, bool, bool); 28] = [
     (Said::Within(0, 3), true, true),
     (Said::Within(3, 0), false, false),
     (Said::Within(9, 4), true, false),
     (Said::Within(4, 9), true, true),
     (Said::Within(11, 0), false, false),
     (Said::Within(11, 4), true, true),
+    (Said::Within(13, 11), true, true),
+    (Said::Within(2, 11), false, false),
+    (Said::Within(10, 24), true, true),
+    (Said::Within(11, 24), false, false),
     (Said::Same(&[0, 2]), true, true),
+    (Said::Same(&[24, 10]), true, true),
     (Said::Same(&[0, 2, 3]), false, false),
     (Said::Same(&[4, 9]), true, false),
     (Said::Apart(&[0, 1]), true, true),
@@ -109,7 +126,8 @@ fn expect(alloc: Global, i: &Interp, said: Said, wanted: bool) -> Result<(), Fai
         return Err(Fail::from("no interpretation"));
     }
     let found = axiom(alloc, said)?;
-    if holds_by_lists(alloc, i, &found)? == wanted {
+    let lists = model_lists(alloc, i)?;
+    if holds_by_lists(alloc, &lists, &found)? == wanted {
         return Ok(());
     }
     Err(Fail::from((said, i.size)))

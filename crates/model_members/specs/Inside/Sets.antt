@@ -34,3 +34,8 @@ HasMembers i set e = (x : ℕ) → Has i.size set x ↔ IsMember i x e
 pub record AreListed (Passes : ℕ → Type 0) (numbers : List ℕ) : Type 0 where
   pub ascending : IsStrictlyIncreasing numbers
   pub same : (x : ℕ) → Contains numbers x ↔ Passes x
+
+-- ascending numbers of elements, with each that is a member of all operands
+pub record HasAll (i : Interp) (operands : List Expr) (numbers : List ℕ) : Type 0 where
+  pub elements : AreElements i.size numbers
+  pub all : (x : ℕ) → All (IsMember i x) operands → Contains numbers x

@@ -16,17 +16,17 @@ returns-then-not-holds c =
     let name = source_at c.args.origin in
     let number : c.loop-axiom.number + 1 ≡ 1 + index = omega (arith, c.loop-axiom.invariant.number) in
     let is : c.source_at.result ≡ name (1 + index) = c.source_at.ensures ∙ ap name number in
-    subst (IsFirstFailing c.args.i.now (numbered_from name 1 axioms)) (sym is)
-    (fails_at c.args.i.now name 1 axioms index c.axiom-item.result c.loop-axiom.invariant.hold
+    subst (IsFirstFailing c.args.lists.now.ordered (numbered_from name 1 axioms)) (sym is)
+    (fails_at c.args.lists.now.ordered name 1 axioms index c.axiom-item.result c.loop-axiom.invariant.hold
     (slice_get_read axioms (length axioms) index c.axiom-item.result refl c.loop-axiom-test.true c.axiom-item.is)
     (λ holds. true≢false (sym (c.in_ok-holds.ensures.1 holds) ∙ c.if-not-holds.true)))
 
 pub loop-axiom-preserved : goal.loop-axiom-preserved
 loop-axiom-preserved c = record {
   number = ap (λ n. n + 1) c.loop-axiom.invariant.number;
-  hold = All-more (Holds c.args.i.now) c.args.axioms.now c.loop-axiom.axiom-index c.axiom-item.result c.loop-axiom-test.true c.loop-axiom.invariant.hold
-      (subst (Holds c.args.i.now) c.axiom-item.is (c.in_ok-holds.ensures.0 c.if-not-holds.false));
+  hold = All-more (Holds c.args.lists.now.ordered) c.args.axioms.now c.loop-axiom.axiom-index c.axiom-item.result c.loop-axiom-test.true c.loop-axiom.invariant.hold
+      (subst (Holds c.args.lists.now.ordered) c.axiom-item.is (c.in_ok-holds.ensures.0 c.if-not-holds.false));
 }
 
 pub returns : goal.returns
-returns c = subst (All (Holds c.args.i.now)) (take_all c.loop-axiom.axiom-index c.args.axioms.now (omega (arith, c.loop-axiom-test.false))) c.loop-axiom.invariant.hold
+returns c = subst (All (Holds c.args.lists.now.ordered)) (take_all c.loop-axiom.axiom-index c.args.axioms.now (omega (arith, c.loop-axiom-test.false))) c.loop-axiom.invariant.hold

@@ -5,5 +5,5 @@ use Rattle.model_check.proofs.check.first_failing.Given as goal
 abbrev pub invariant-loop-axiom : goal.invariant-loop-axiom
 invariant-loop-axiom l = record {
   number : l.number ≡ l.axiom-index;
-  hold : All (Holds l.i) (take l.axiom-index l.axioms);
+  hold : All (Holds l.lists.ordered) (take l.axiom-index l.axioms);
 }

@@ -14,7 +14,7 @@ use Rattle.model_check.proofs.check.first_failing_of.Goals as goal
 pub returns-in-Some : goal.returns-in-Some
 returns-in-Some c =
     let case = c.args.case.now in
-    let i = c.args.i.now in
+    let i = c.args.lists.now.ordered in
     let source = c.in-Some.source in
     let left = numbered_from Source.Left 1 case.left in
     let right = numbered_from Source.Right 1 case.right in
@@ -26,7 +26,7 @@ returns-in-Some c =
 pub returns-in-Some-of_right : goal.returns-in-Some-of_right
 returns-in-Some-of_right c =
     let case = c.args.case.now in
-    let i = c.args.i.now in
+    let i = c.args.lists.now.ordered in
     let source = c.in-Some-of_right.source in
     let left = numbered_from Source.Left 1 case.left in
     let right = numbered_from Source.Right 1 case.right in
@@ -40,7 +40,7 @@ returns-in-Some-of_right c =
 pub returns : goal.returns
 returns c =
     let case = c.args.case.now in
-    let i = c.args.i.now in
+    let i = c.args.lists.now.ordered in
     let ranks = c.args.ranks.now in
     let left = subst (FindsFailing i from.Left c.as_slice.result.now) c.in-None.is c.in_ok-of_left.ensures in
     let right = subst (FindsFailing i from.Right c.as_slice-2.result.now) c.in-None-of_right.is c.in_ok-of_right.ensures in

@@ -30,10 +30,10 @@ returns-in-Some c =
     let rank = get_or ranks index 0 in
     let below = All-get_or (λ r. r < length case.order) ranks index 0 c.loop-rank-test.true c.requires.ranks in
     let axioms = c.as_slice.result.now in
-    let fails = subst (FindsFailing c.args.i.now (from.Row rank) axioms) c.in-Some.is c.in_ok-failing.ensures in
-    row_fails c.args.i.now case ranks index rank c.in-Some.source c.loop-rank.invariant (slice_get-get_or ranks index 0 c.loop-rank-test.true)
-    (subst (λ (axioms : List Axiom). IsFirstFailing c.args.i.now (numbered_from (Source.Row rank) 1 axioms) c.in-Some.source) (c.as_slice.ensures ∙ c.axioms_of.ensures ∙ row_is case rank below) fails)
+    let fails = subst (FindsFailing c.args.lists.now.ordered (from.Row rank) axioms) c.in-Some.is c.in_ok-failing.ensures in
+    row_fails c.args.lists.now.ordered case ranks index rank c.in-Some.source c.loop-rank.invariant (slice_get-get_or ranks index 0 c.loop-rank-test.true)
+    (subst (λ (axioms : List Axiom). IsFirstFailing c.args.lists.now.ordered (numbered_from (Source.Row rank) 1 axioms) c.in-Some.source) (c.as_slice.ensures ∙ c.axioms_of.ensures ∙ row_is case rank below) fails)
 
 pub returns : goal.returns
 returns c =
-    subst (λ ranks. All (Holds c.args.i.now) (axioms_of_ranks c.args.case.now ranks)) (take_all c.loop-rank.rank-index c.args.ranks.now (omega (arith, c.loop-rank-test.false))) c.loop-rank.invariant
+    subst (λ ranks. All (Holds c.args.lists.now.ordered) (axioms_of_ranks c.args.case.now ranks)) (take_all c.loop-rank.rank-index c.args.ranks.now (omega (arith, c.loop-rank-test.false))) c.loop-rank.invariant

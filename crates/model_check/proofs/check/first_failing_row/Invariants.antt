@@ -4,4 +4,4 @@ use Rattle.case_file.specs.Incoherence.{axioms_of_ranks}
 use Rattle.model_check.proofs.check.first_failing_row.Given as goal
 
 abbrev pub invariant-loop-rank : goal.invariant-loop-rank
-invariant-loop-rank l = All (Holds l.i) (axioms_of_ranks l.case (take l.rank-index l.ranks))
+invariant-loop-rank l = All (Holds l.lists.ordered) (axioms_of_ranks l.case (take l.rank-index l.ranks))

@@ -9,4 +9,4 @@ decreases-members l = goal.size-members l
 -- the set of the elements that belong to each operand so far
 abbrev pub invariant-loop-operand : goal.invariant-loop-operand
 invariant-loop-operand l =
-    IsSetOf l.fn.i.size (λ x. (x < l.fn.i.size) × All (IsMember l.fn.i x) (take l.operand-index l.operand-items)) l.all
+    IsSetOf l.fn.lists.ordered.size (λ x. (x < l.fn.lists.ordered.size) × All (IsMember l.fn.lists.ordered x) (take l.operand-index l.operand-items)) l.all

@@ -13,12 +13,15 @@ nothing_taken i x (e, there, member) = absurd (search (rules, there.1))
 pub loop-operand-init : goal.loop-operand-init
 loop-operand-init c = record {
   apart = tt;
-  taken = set_none c.args.i.now.size (λ x. (e : Expr) × Contains [] e × IsMember c.args.i.now x e) c.new.result c.new.ensures (nothing_taken c.args.i.now);
+  taken = set_none c.args.lists.now.ordered.size (λ x. (e : Expr) × Contains [] e × IsMember c.args.lists.now.ordered x e) c.new.result c.new.ensures (nothing_taken c.args.lists.now.ordered);
 }
+
+pub is_apart-requires-clause-inhabited : goal.is_apart-requires-clause-inhabited
+is_apart-requires-clause-inhabited c = c.requires.fits.inhabited
 
 pub returns-then-not-is_apart : goal.returns-then-not-is_apart
 returns-then-not-is_apart c =
-    let i = c.args.i.now in
+    let i = c.args.lists.now.ordered in
     let operands = c.args.operands.now in
     let index = c.loop-operand.operand-index in
     let next = c.operand-item.result in (
@@ -31,7 +34,7 @@ returns-then-not-is_apart c =
 
 pub loop-operand-preserved : goal.loop-operand-preserved
 loop-operand-preserved c =
-    let i = c.args.i.now in
+    let i = c.args.lists.now.ordered in
     let operands = c.args.operands.now in
     let index = c.loop-operand.operand-index in
     let next = c.operand-item.result in
@@ -48,6 +51,6 @@ loop-operand-preserved c =
 
 pub returns : goal.returns
 returns c = (
-  (λ yes. subst (AreApart c.args.i.now) (take_all c.loop-operand.operand-index c.args.operands.now c.loop-operand-test.false) c.loop-operand.invariant.apart),
+  (λ yes. subst (AreApart c.args.lists.now.ordered) (take_all c.loop-operand.operand-index c.args.operands.now c.loop-operand-test.false) c.loop-operand.invariant.apart),
   (λ holds. search rules),
 )

@@ -7,6 +7,6 @@ use Rattle.model_members.proofs.classes.are_disjoint.Given as goal
 -- the operands so far are apart, and their members are taken
 abbrev pub invariant-loop-operand : goal.invariant-loop-operand
 invariant-loop-operand l = record {
-  apart : AreApart l.fn.i (take l.operand-index l.fn.operands);
-  taken : IsSetOf l.fn.i.size (λ x. (e : Expr) × Contains (take l.operand-index l.fn.operands) e × IsMember l.fn.i x e) l.taken;
+  apart : AreApart l.fn.lists.ordered (take l.operand-index l.fn.operands);
+  taken : IsSetOf l.fn.lists.ordered.size (λ x. (e : Expr) × Contains (take l.operand-index l.fn.operands) e × IsMember l.fn.lists.ordered x e) l.taken;
 }

@@ -12,7 +12,7 @@ use Rattle.model_members.proofs.classes.are_equivalent.Goals as goal
 
 pub returns : goal.returns
 returns c =
-    let i = c.args.i.now in
+    let i = c.args.lists.now.ordered in
     let operands = c.args.operands.now in
     let first = c.in-Some.first.now in
     let set = c.in_ok-set.set in

@@ -1,16 +1,14 @@
-use Rattle.std.proofs.Common.{ℕ, List, Contains, length, subst}
-use Rattle.el_logic.specs.declared.types.Expr.TheVariants.{Name}
+use Rattle.std.proofs.Common.{◌≡◌, ◌∙◌, ℕ, List, Contains, sym, subst}
+use Rattle.std.specs.Prelude.{◌↔◌}
 use Rattle.el_logic.specs.Meaning.{members_of}
-use Rattle.closed_model.specs.Models.{HaveTheSame}
-use Rattle.model_members.proofs.ListSteps.{listed_of}
-use Rattle.model_members.proofs.ClassLaws.{set_listed}
+use Rattle.model_members.specs.Inside.Sets.{AreElements}
 use Rattle.model_members.proofs.classes.members_of_name.Goals as goal
 
 pub returns : goal.returns
 returns c =
-    let i = c.args.i.now in
-    let named = members_of i c.args.class in
-    let numbers = c.in_ok-numbers.numbers in
-    set_listed i.size (Contains named) numbers
-    (listed_of (Contains named) numbers named c.in_ok-numbers.ensures.ascending (subst (λ (xs : List ℕ). HaveTheSame numbers xs) c.named.ensures c.in_ok-numbers.ensures.same) (λ x. ((λ there. there), (λ there. there))))
-    (λ x there. c.members_are_elements.ensures (length i.classes) (length i.roles) i x (Name c.args.class) c.requires there)
+    let i = c.args.lists.now.ordered in
+    let own = members_of i c.args.class in
+    record {
+      ordered = subst (AreElements i.size) (sym c.in_ok-numbers.ensures) c.named.ensures.elements;
+      same = λ x. subst (λ (xs : List ℕ). Contains xs x ↔ Contains own x) (sym (c.in_ok-numbers.ensures ∙ c.named.ensures.list)) ((λ there. there), (λ there. there));
+    }

@@ -1,6 +1,5 @@
-use Rattle.std.proofs.Common.{◌∙◌, refl, sym}
+use Rattle.std.proofs.Common.{◌∙◌, sym}
 use Rattle.std.proofs.lemmas.Bool.{false≢true}
-use Rattle.model_members.proofs.PropertyLaws.{same_at}
 use Rattle.model_members.proofs.properties.are_the_same.Goals as goal
 
 pub returns-then-not-are_pairs_among : goal.returns-then-not-are_pairs_among
@@ -10,12 +9,10 @@ returns-then-not-are_pairs_among c = (
 )
 
 pub returns : goal.returns
-returns c =
-    let others = c.args.others.now in
-    let same = same_at c.as_slice.result.now c.in_ok-ordered.ordered others others c.as_slice.ensures c.in_ok-ordered.ensures.same refl in (
-      (λ yes x y. (
-        (λ led. (same (x, y)).0 (c.are_pairs_among-2.ensures.0 yes x y led)),
-        (λ led. c.are_pairs_among.ensures.0 c.if-not-are_pairs_among.false x y led),
-      )),
-      (λ told. c.are_pairs_among-2.ensures.1 (λ x y led. (same (x, y)).1 ((told x y).0 led))),
-    )
+returns c = (
+  (λ yes x y. (
+    (λ led. c.are_pairs_among-2.ensures.0 yes x y led),
+    (λ led. c.are_pairs_among.ensures.0 c.if-not-are_pairs_among.false x y led),
+  )),
+  (λ told. c.are_pairs_among-2.ensures.1 (λ x y led. (told x y).0 led)),
+)

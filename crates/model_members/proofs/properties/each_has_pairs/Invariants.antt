@@ -4,4 +4,4 @@ use Rattle.model_members.proofs.properties.each_has_pairs.Given as goal
 
 -- each operand so far has just these pairs
 abbrev pub invariant-loop-operand : goal.invariant-loop-operand
-invariant-loop-operand l = All (HasPairs l.fn.i l.fn.wanted) (take l.operand-index l.fn.operands)
+invariant-loop-operand l = All (HasPairs l.fn.lists.ordered l.fn.wanted) (take l.operand-index l.fn.operands)

@@ -8,5 +8,5 @@ use Rattle.model_members.proofs.properties.led.Given as goal
 abbrev pub invariant-loop-role : goal.invariant-loop-role
 invariant-loop-role l = record {
   ascending : AllPairs ComesBefore l.all;
-  led : LedBy l.fn.i l.fn.first l.all (take l.role-index l.fn.chain);
+  led : LedBy l.fn.lists.ordered l.fn.first l.all (take l.role-index l.fn.chain);
 }

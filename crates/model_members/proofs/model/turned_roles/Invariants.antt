@@ -1,0 +1,13 @@
+use Rattle.std.proofs.Common.{All, take}
+use Rattle.std.specs.List.{AllPairs}
+use Rattle.closed_model.specs.Models.{ComesBefore}
+use Rattle.model_members.specs.Lists.{AreTurned}
+use Rattle.model_members.specs.Inside.Keyed.{AreMadeOf}
+use Rattle.model_members.proofs.model.turned_roles.Given as goal
+
+-- the lists so far
+abbrev pub invariant-loop-list : goal.invariant-loop-list
+invariant-loop-list l = record {
+  same : AreMadeOf AreTurned (take l.list-index l.lists) l.turned.items;
+  ascending : All (AllPairs ComesBefore) l.turned.items;
+}
