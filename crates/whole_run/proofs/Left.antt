@@ -87,7 +87,7 @@ module _ (names : FileNames) (apart : AreApart names) (limits : Limits) (run che
       ∙ own_file after.files names.evidence s.evidence)
 
   -- so the check reads what the run read, and what it left
-  pub checked : Checked check (check_of names) limits
+  abbrev checked : Checked check (check_of names) limits
   checked =
       let read = s.outcome.read in
       record {

@@ -1,6 +1,7 @@
 -- The names of a run, and the command of the check that they are.
-use Rattle.std.proofs.Common.{◌≡◌, ℕ, Bool, true, false, cond, not, List, [], ◌∷◌, Some, None, refl, sym, ap, subst, true≢false}
-use Rattle.std.specs.Prelude.{◌&&◌, ◌||◌, ◌==◌, bytes_eq, option_map}
+use Rattle.std.proofs.Common.{◌≡◌, ℕ, suc, Bool, true, false, cond, not, List, [], ◌∷◌, Some, None, length, refl, sym, ap, subst, arith, true≢false}
+use Rattle.std.specs.Prelude.{◌&&◌, ◌||◌, ◌==◌, nat_eq, bytes_eq, option_map}
+use Rattle.std.proofs.lemmas.Bool.Decides.{nat_tests}
 use Rattle.std.proofs.lemmas.Bool.{and_parts, and_from, not-true}
 use Rattle.std.specs.List.{list_all}
 use Rattle.command_words.specs.declared.types.Program.TheVariants as program
@@ -98,7 +99,8 @@ name_plain (b ∷ bs) h = rw (not-true (b == 45) h) refl
 
 name_filled : (word : List ℕ) → is_file_name word ≡ true → is_filled word ≡ true
 name_filled [] h = absurd (true≢false (sym h))
-name_filled (b ∷ bs) h = refl
+name_filled (b ∷ bs) h =
+    let some : nat_eq (suc (length bs)) 0 ≡ false = grind (arith, nat_tests) in ap not some
 
 -- the five names in their order
 abbrev given_of : FileNames → List (List ℕ)
