@@ -1,3 +1,5 @@
 pub mod Valid
 pub mod Names
 pub mod Left
+pub mod NoRows
+pub mod Refused

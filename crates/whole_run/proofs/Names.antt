@@ -6,11 +6,12 @@ use Rattle.std.proofs.lemmas.Bool.{and_parts, and_from, not-true}
 use Rattle.std.specs.List.{list_all}
 use Rattle.command_words.specs.declared.types.Program.TheVariants as program
 use Rattle.command_words.specs.declared.types.FileNames as named
+use Rattle.command_words.specs.declared.types.Flag.TheVariants as flag
 use Rattle.command_words.specs.declared.types.CheckWords.TheVariants as check
-use Rattle.command_words.specs.Words.{Given, Reads, is_plain, no_more, name, nothing_given, with_names}
+use Rattle.command_words.specs.Words.{Given, Reads, is_plain, no_more, name, option, nothing_given, with_flag, with_names, with_options}
 use Rattle.command_words.specs.Commands.{IsCheck, is_filled}
 use Rattle.repair_run.specs.Words.{FileNames, file_names, is_file_name, is_input, are_names, names_given}
-use Rattle.whole_run.specs.Checks.{check_of}
+use Rattle.whole_run.specs.Checks.{check_of, refusal_check_of, refusal_words}
 
 -- what names of a run are
 pub record AreApart (names : FileNames) : Type 0 where
@@ -138,3 +139,23 @@ names_are_check words names h =
       reads = five_read names five.apart_are;
       asks = ap (λ (t : Bool). option_map (λ (files : named.FileNames). check.Repair false files) (cond t (Some files) None)) (all_filled names five.apart_are);
     })
+
+-- three of the names are a command of the check of a refusal
+pub names_are_refusal_check : (words : List (List ℕ)) (names : FileNames) → names_given words ≡ Some names → IsCheck (refusal_words names) (refusal_check_of names)
+names_are_refusal_check words names h =
+    let a = (five_given words names h).apart_are in
+    let refused = with_options (with_flag flag.Refused nothing_given.options) nothing_given in
+    let one = with_names (names.left ∷ []) refused in
+    let two = with_names (names.right ∷ []) one in
+    let last = with_names (names.evidence ∷ []) two in
+    let filled = and_from (is_filled names.left) (list_all is_filled (names.right ∷ names.evidence ∷ [])) (name_filled names.left a.left)
+    (and_from (is_filled names.right) (list_all is_filled (names.evidence ∷ [])) (name_filled names.right a.right)
+    (and_from (is_filled names.evidence) true (name_filled names.evidence a.evidence) refl)) in
+    record {
+      given = last;
+      reads = option nothing_given last flag.Refused (names.left ∷ names.right ∷ names.evidence ∷ []) refl refl
+          (name refused last names.left (names.right ∷ names.evidence ∷ []) (name_plain names.left a.left)
+          (name one last names.right (names.evidence ∷ []) (name_plain names.right a.right)
+          (name two last names.evidence [] (name_plain names.evidence a.evidence) (no_more last))));
+      asks = ap (λ (t : Bool). cond t (Some (refusal_check_of names)) None) filled;
+    }

@@ -1,5 +1,5 @@
 -- A run, and a check of what it left.
-use Rattle.std.specs.Prelude.{◌≡◌, false, Some}
+use Rattle.std.specs.Prelude.{◌≡◌, ℕ, false, List, [], ◌∷◌, codes, Some}
 use Rattle.text_names.specs.declared.limits.Limits.{Limits}
 use Rattle.io_edge.specs.Outside.{Files}
 use Rattle.status_lines.specs.Runs.{Run}
@@ -18,6 +18,14 @@ check_of names = check.Repair false (record {
   out = names.out;
   evidence = names.evidence;
 })
+
+-- the check of a refusal with these files
+abbrev pub refusal_check_of : FileNames → CheckWords
+refusal_check_of names = check.Refusal false names.left names.right names.evidence
+
+-- the words of the check of a refusal
+abbrev pub refusal_words : FileNames → List (List ℕ)
+refusal_words names = codes "--refused" ∷ names.left ∷ names.right ∷ names.evidence ∷ []
 
 -- the folder tells its files, the check finds them as the run left them, and nothing fails in it
 pub record IsCheckedAfter (run check : Run) (command : CheckWords) (limits : Limits)
