@@ -1,5 +1,9 @@
 //! What is known of what lines of evidence say.
 
+ghost use Rattle.std.specs.Prelude.{◌<◌, ◌^◌};
+ghost use Rattle.evidence_lines.specs.Journal.{AreEntryNumbers};
+ghost use Rattle.evidence_lines.specs.Steps.{AreStepNumbers};
+
 use crate::known::{Known, each};
 use accuse_core::Entry;
 use derivation::Step;
@@ -50,14 +54,28 @@ impl Known for Pairs {
     }
 }
 
+// The numbers of a step.
+fn step_numbers(step: Step)
+    ensures { AreStepNumbers step }
+{
+    let _ = step;
+}
+
 impl Known for Step {
     ghost use Rattle.evidence_lines.specs.Steps.{AreStepNumbers};
 
     ghost known = { AreStepNumbers };
 
     fn read(&self) {
-        let _step = *self;
+        step_numbers(*self);
     }
+}
+
+// The numbers of an entry.
+fn entry_numbers(entry: Entry)
+    ensures { AreEntryNumbers entry }
+{
+    let _ = entry;
 }
 
 impl Known for Entry {
@@ -66,8 +84,16 @@ impl Known for Entry {
     ghost known = { AreEntryNumbers };
 
     fn read(&self) {
-        let _entry = *self;
+        entry_numbers(*self);
     }
+}
+
+// The place of an axiom that is left out.
+fn place_numbers(omitted: Omitted)
+    ensures line { omitted.place.line < 2 ^ 64 }
+    ensures column { omitted.place.column < 2 ^ 64 }
+{
+    let _ = omitted;
 }
 
 impl Known for Omitted {
@@ -76,7 +102,7 @@ impl Known for Omitted {
     ghost known = { λ omitted. (omitted.place.line < 2 ^ 64) × (omitted.place.column < 2 ^ 64) };
 
     fn read(&self) {
-        let _omitted = *self;
+        place_numbers(*self);
     }
 }
 

@@ -79,10 +79,10 @@ given_again : (left right : List NodeAxiom) (rows others : List (List NodeAxiom)
     (rule : Rule) (fact : Fact) → IsNoRow source
     → Gives nodes (IsNamedBy (record { left = left; right = right; rows = rows }) part [] source) One Two rule fact
     → Gives nodes (IsNamedBy (record { left = left; right = right; rows = others }) part [] source) One Two rule fact
-given_again left right rows others part (Source.Left number) nodes One Two rule fact no given = given
-given_again left right rows others part (Source.Right number) nodes One Two rule fact no given = given
-given_again left right rows others part Source.Nothing nodes One Two rule fact no given = given
-given_again left right rows others part (Source.Row rank number) nodes One Two rule fact no given = absurd no
+given_again left right rows others part (Source.Left number) nodes One Two _ _ free given = given
+given_again left right rows others part (Source.Right number) nodes One Two _ _ free given = given
+given_again left right rows others part Source.Nothing nodes One Two _ _ free given = given
+given_again left right rows others part (Source.Row rank number) nodes One Two _ _ free given = absurd free
 
 -- ---- steps by ranks
 
@@ -126,10 +126,10 @@ module _ (documents : Documents) (table other : Table) (order another : List ℕ
       record {
         good = λ k step below at.
             let is = h.good k step below at in
-            let no = good_no_row (theory_of case) part step.source case.store.nodes (IsStepBefore steps k step.first) (IsStepBefore steps k step.second) step.rule step.fact is.given is.no_more.source_is in
+            let free = good_no_row (theory_of case) part step.source case.store.nodes (IsStepBefore steps k step.first) (IsStepBefore steps k step.second) step.rule step.fact is.given is.no_more.source_is in
             record {
               given = given_again case.store.left case.store.right case.over case_too.over part step.source case.store.nodes
-                  (IsStepBefore steps k step.first) (IsStepBefore steps k step.second) step.rule step.fact no is.given;
+                  (IsStepBefore steps k step.first) (IsStepBefore steps k step.second) step.rule step.fact free is.given;
               no_more = is.no_more;
             };
         shows = h.shows;

@@ -3,6 +3,4 @@
 
 mod laws;
 
-pub use laws::{
-    done_runs_are_answered_yes, evidence_of_runs_is_valid, refusals_are_answered_yes,
-};
+pub use laws::{done_runs_are_answered_yes, evidence_of_runs_is_valid, refusals_are_answered_yes};
