@@ -7,7 +7,6 @@ use Rattle.el_logic.specs.declared.types.Side.{Side}
 use Rattle.el_logic.specs.declared.types.Side.TheVariants as side
 use Rattle.ofn_axiom.specs.declared.types.Omitted.{Omitted}
 use Rattle.ofn_axiom.specs.declared.types.SideOmitted.{SideOmitted}
-use Rattle.evidence_lines.specs.declared.types.SidedOmitted.{SidedOmitted}
 use Rattle.evidence_lines.specs.Model.{AreElementNumbers, ArePairNumbers}
 use Rattle.evidence_lines.specs.Omitted.{ArePlaceNumbers}
 use Rattle.evidence_text.specs.EvidenceText.{of_side, omitted_list}

@@ -8,7 +8,7 @@ use Rattle.command_words.specs.declared.types.Program.TheVariants as program
 use Rattle.command_words.specs.declared.types.FileNames as named
 use Rattle.command_words.specs.declared.types.Flag.TheVariants as flag
 use Rattle.command_words.specs.declared.types.CheckWords.TheVariants as check
-use Rattle.command_words.specs.Words.{Given, Reads, is_plain, no_more, name, option, nothing_given, with_flag, with_names, with_options}
+use Rattle.command_words.specs.Words.{Reads, is_plain, no_more, name, option, nothing_given, with_flag, with_names, with_options}
 use Rattle.command_words.specs.Commands.{IsCheck, is_filled}
 use Rattle.repair_run.specs.Words.{FileNames, file_names, is_file_name, is_input, are_names, names_given}
 use Rattle.whole_run.specs.Checks.{check_of, refusal_check_of, refusal_words}
