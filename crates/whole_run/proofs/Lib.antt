@@ -3,3 +3,5 @@ pub mod Names
 pub mod Left
 pub mod NoRows
 pub mod Refused
+pub mod Bare
+pub mod Refusals

@@ -14,7 +14,8 @@ use Rattle.sssom_rows.specs.declared.table.Table.{Table}
 use Rattle.case_file.specs.Cases.{CaseView, case_of}
 use Rattle.case_load.specs.declared.documents.Documents.{Documents}
 use Rattle.case_load.specs.declared.texts.Loaded.{Loaded}
-use Rattle.case_load.specs.Loads.{AreRead, IsCaseOf, input_of, no_names}
+use Rattle.case_load.specs.Folders.{AreFiles}
+use Rattle.case_load.specs.Loads.{AreRead, Inputs, IsCaseOf, input_of, no_names}
 use Rattle.evidence_text.specs.declared.types.Body.{Body}
 use Rattle.evidence_text.specs.declared.types.Body.TheVariants as body
 use Rattle.evidence_text.specs.declared.types.Evidence.{Evidence}
@@ -22,13 +23,13 @@ use Rattle.evidence_text.specs.EvidenceText.{plain}
 use Rattle.evidence_text.specs.Reading.{text_read}
 use Rattle.valid_evidence.specs.Items.{case_loaded, line_of_node, line_of_role}
 use Rattle.valid_evidence.specs.Valid.{IsRefusalBody, IsValidRefusal}
-use Rattle.status_lines.specs.declared.status.Status.TheVariants as status
 use Rattle.status_lines.specs.Runs.{Run}
 use Rattle.repair_run.specs.Words.{FileNames}
-use Rattle.repair_run.specs.Outcomes.{IsIncoherentCase, IsRefusalEvidence}
-use Rattle.repair_run.specs.Run.{HoldsEvidence, IsRun}
+use Rattle.repair_run.specs.Outcomes.{IsIncoherentCase, IsRefusalEvidence, inputs_named}
+use Rattle.check_run.specs.declared.reading.CheckTexts.{CheckTexts}
 use Rattle.check_run.specs.declared.status.CheckStatus.{CheckStatus}
 use Rattle.check_run.specs.declared.status.CheckStatus.TheVariants.{Yes}
+use Rattle.check_run.specs.Files.{AreRefusalTexts}
 use Rattle.check_run.specs.Check.{Checked, IsOrMemory}
 use Rattle.whole_run.specs.Checks.{refusal_check_of, IsCheckedAfter}
 use Rattle.whole_run.proofs.Names.{AreApart}
@@ -89,42 +90,42 @@ module _ (limits : Limits) (documents : Documents) (table bare : Table) (loaded 
 one_text : (one other : List ℕ) → Some one ≡ Some other → one ≡ other
 one_text one other h = cc
 
-module _ (reading : OneReading) (read_again : ReadAgain) (names : FileNames) (apart : AreApart names) (limits : Limits) (run check : Run) (part : Part) (class : List ℕ)
-    (answer : CheckStatus) (after : IsCheckedAfter run check (refusal_check_of names) limits answer) (c : Checked check (refusal_check_of names) limits)
-    (i : IsIncoherentCase run.folder names limits part class) (bytes : List ℕ) (evidence : IsRefusalEvidence i.loaded part bytes)
-    (held : HoldsEvidence run after.files names bytes) where
-  abbrev left : Files
-  left = with_file after.files names.evidence bytes
-
-  found : check.folder.files ≡ Some left
-  found = after.left ∙ held
-
+module _ (names : FileNames) (apart : AreApart names) (limits : Limits) (run check : Run) (before : Files) (told : run.folder.files ≡ Some before)
+    (bytes : List ℕ) (found : check.folder.files ≡ Some (with_file before names.evidence bytes)) (ran : Inputs)
+    (were : AreFiles run.folder (inputs_named names) limits.file_bytes ran) (texts : CheckTexts)
+    (are : AreRefusalTexts check.folder names.left names.right names.evidence limits.file_bytes texts) where
   -- the check reads the documents that the run read, and the evidence that it left
-  same_left : c.texts.left ≡ i.read.texts.left
+  pub same_left : texts.left ≡ ran.left
   same_left =
-      let now = of_told (λ (files : Files). files names.left ≡ Some c.texts.left) check.folder.files left found c.read.files.left_text.1 in
-      let before = of_told (λ (files : Files). files names.left ≡ Some i.read.texts.left) run.folder.files after.files after.told i.read.files.left.1 in
-      one_text c.texts.left i.read.texts.left (sym now ∙ other_file after.files names.evidence names.left bytes apart.evidence_left ∙ before)
+      let now = of_told (λ (files : Files). files names.left ≡ Some texts.left) check.folder.files (with_file before names.evidence bytes) found are.left_text.1 in
+      let then = of_told (λ (files : Files). files names.left ≡ Some ran.left) run.folder.files before told were.left.1 in
+      one_text texts.left ran.left (sym now ∙ other_file before names.evidence names.left bytes apart.evidence_left ∙ then)
 
-  same_right : c.texts.right ≡ i.read.texts.right
+  pub same_right : texts.right ≡ ran.right
   same_right =
-      let now = of_told (λ (files : Files). files names.right ≡ Some c.texts.right) check.folder.files left found c.read.files.right_text.1 in
-      let before = of_told (λ (files : Files). files names.right ≡ Some i.read.texts.right) run.folder.files after.files after.told i.read.files.right.1 in
-      one_text c.texts.right i.read.texts.right (sym now ∙ other_file after.files names.evidence names.right bytes apart.evidence_right ∙ before)
+      let now = of_told (λ (files : Files). files names.right ≡ Some texts.right) check.folder.files (with_file before names.evidence bytes) found are.right_text.1 in
+      let then = of_told (λ (files : Files). files names.right ≡ Some ran.right) run.folder.files before told were.right.1 in
+      one_text texts.right ran.right (sym now ∙ other_file before names.evidence names.right bytes apart.evidence_right ∙ then)
 
-  same_evidence : c.texts.evidence ≡ bytes
+  pub same_evidence : texts.evidence ≡ bytes
   same_evidence =
-      let now = of_told (λ (files : Files). files names.evidence ≡ Some c.texts.evidence) check.folder.files left found c.read.files.evidence_text in
-      one_text c.texts.evidence bytes (sym now ∙ own_file after.files names.evidence bytes)
+      let now = of_told (λ (files : Files). files names.evidence ≡ Some texts.evidence) check.folder.files (with_file before names.evidence bytes) found are.evidence_text in
+      one_text texts.evidence bytes (sym now ∙ own_file before names.evidence bytes)
 
-  -- so the documents are the same
+  -- so what is said of the documents of the one holds of those of the other
+  pub of_run : (P : List ℕ → List ℕ → Type 0) → P texts.left texts.right → P ran.left ran.right
+  of_run P h = subst (λ (text : List ℕ). P ran.left text) same_right (subst (λ (text : List ℕ). P text texts.right) same_left h)
+
+module _ (reading : OneReading) (read_again : ReadAgain) (names : FileNames) (apart : AreApart names) (limits : Limits) (run check : Run) (part : Part) (class : List ℕ)
+    (answer : CheckStatus) (after : IsCheckedAfter run check (refusal_check_of names) limits answer) (i : IsIncoherentCase run.folder names limits part class)
+    (bytes : List ℕ) (evidence : IsRefusalEvidence i.loaded part bytes) (found : check.folder.files ≡ Some (with_file after.files names.evidence bytes))
+    (c : Checked check (refusal_check_of names) limits) where
+  -- the documents are the same
   one_pair : i.read.from_texts.documents ≡ c.read.case.documents
   one_pair =
-      let ran = i.read.from_texts.read.documents_read in
-      let checked = c.read.case.read.documents_read in
-      let with_left = subst (λ (text : List ℕ). AreRead text c.texts.right Strict limits c.read.case.documents) same_left checked in
-      let with_both = subst (λ (text : List ℕ). AreRead i.read.texts.left text Strict limits c.read.case.documents) same_right with_left in
-      same_documents reading i.read.texts.left i.read.texts.right Strict limits i.read.from_texts.documents c.read.case.documents ran with_both
+      let read = of_run names apart limits run check after.files after.told bytes found i.read.texts i.read.files c.texts c.read.files
+      (λ left right. AreRead left right Strict limits c.read.case.documents) c.read.case.read.documents_read in
+      same_documents reading i.read.texts.left i.read.texts.right Strict limits i.read.from_texts.documents c.read.case.documents i.read.from_texts.read.documents_read read
 
   -- and the evidence is valid
   valid : (e : Evidence) → IsValidRefusal i.loaded part e → IsValidRefusal c.loaded part e
@@ -132,20 +133,13 @@ module _ (reading : OneReading) (read_again : ReadAgain) (names : FileNames) (ap
       let made = subst (λ (d : Documents). IsCaseOf limits d i.read.from_texts.table i.loaded) one_pair i.read.from_texts.made in
       refusal_again limits c.read.case.documents i.read.from_texts.table c.read.case.table i.loaded c.loaded made c.read.case.made part e h
 
+  -- so a check that makes a case of its files answers yes
   pub refused_yes : IsOrMemory Yes answer
   refused_yes =
-      of_told _ check.folder.files left found after.checked.yes_answer after.no_fault c (
+      let same = same_evidence names apart limits run check after.files after.told bytes found i.read.texts i.read.files c.texts c.read.files in
+      of_told _ check.folder.files (with_file after.files names.evidence bytes) found after.checked.yes_answer after.no_fault c (
         part,
         plain evidence.0,
-        ap text_read (same_evidence ∙ evidence.4) ∙ read_again evidence.0 evidence.2 evidence.3,
+        ap text_read (same ∙ evidence.4) ∙ read_again evidence.0 evidence.2 evidence.3,
         refusal_valid_plain c.loaded part evidence.0 (valid evidence.0 evidence.1),
       )
-
--- a refusal is answered yes
-pub refusal_answered : OneReading → ReadAgain → (names : FileNames) → AreApart names → (limits : Limits) (run check : Run) (part : Part) (class : List ℕ) (answer : CheckStatus)
-    → IsRun run names limits (status.Incoherent part class) → IsCheckedAfter run check (refusal_check_of names) limits answer
-    → Checked check (refusal_check_of names) limits → IsOrMemory Yes answer
-refusal_answered reading read_again names apart limits run check part class answer is after c =
-    let whole = is.files in
-    refused_yes reading read_again names apart limits run check part class answer after c whole.0 whole.1 whole.2
-    (of_told (λ (files : Files). HoldsEvidence run files names whole.1) run.folder.files after.files after.told whole.3)

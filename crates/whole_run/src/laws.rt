@@ -13,12 +13,14 @@ ghost use Rattle.command_words.specs.Commands.{IsCheck};
 ghost use Rattle.check_run.specs.declared.reading.CheckTexts.{CheckTexts};
 ghost use Rattle.check_run.specs.declared.status.CheckStatus.{CheckStatus};
 ghost use Rattle.check_run.specs.declared.status.CheckStatus.TheVariants.{Yes};
-ghost use Rattle.check_run.specs.Check.{Checked, IsOrMemory};
+ghost use Rattle.check_run.specs.Check.{IsOrMemory};
 ghost use Rattle.check_run.specs.Verdicts.{IsValidRun, IsValidRefused};
 ghost use Rattle.whole_run.specs.Checks.{check_of, refusal_check_of, refusal_words, IsCheckedAfter};
 
+use case_load::texts_have_one_case_or_first_fault;
 use evidence_text::texts_are_what_is_read;
 use ofn_axiom::each_document_has_one_answer;
+use sssom_rows::bytes_have_one_table_or_first_fault;
 
 /// The evidence that a run writes is valid as a check reads it.
 pub fn evidence_of_runs_is_valid()
@@ -44,8 +46,7 @@ pub fn done_runs_are_answered_yes()
 }
 
 /// Three names of a run are a command of the check of a refusal. What a run leaves that refuses
-/// ontologies as incoherent is then answered yes, if the check reads its files and makes a case of
-/// them, or memory ran out in the check. It has a table without rows in the place of MAP.
+/// ontologies as incoherent is answered yes by it, or memory ran out in the check.
 pub fn refusals_are_answered_yes()
     ensures words { (words : List (List ℕ)) (names : FileNames) →
         names_given words ≡ Some names → IsCheck (refusal_words names) (refusal_check_of names) }
@@ -53,8 +54,10 @@ pub fn refusals_are_answered_yes()
         (run check : Run) (part : Part) (class : List ℕ) (answer : CheckStatus) →
         names_given words ≡ Some names → IsRun run names limits (Incoherent part class) →
         IsCheckedAfter run check (refusal_check_of names) limits answer →
-        Checked check (refusal_check_of names) limits → IsOrMemory Yes answer }
+        IsOrMemory Yes answer }
 {
     texts_are_what_is_read();
     each_document_has_one_answer();
+    bytes_have_one_table_or_first_fault();
+    texts_have_one_case_or_first_fault();
 }
