@@ -18,7 +18,7 @@ use Rattle.diagnosis.specs.Rows.{keep_of}
 use Rattle.repaired_table.specs.Repaired.{repaired_text}
 use Rattle.status_lines.specs.Lines.{summary_text}
 use Rattle.evidence_text.specs.declared.types.Evidence.{Evidence}
-use Rattle.evidence_text.specs.EvidenceText.{HasText, evidence_text}
+use Rattle.evidence_text.specs.EvidenceText.{HasText, IsEvidenceValue, evidence_text}
 use Rattle.valid_evidence.specs.Valid.{IsValidEvidence, IsValidRefusal}
 use Rattle.repair_run.specs.Words.{FileNames}
 
@@ -81,12 +81,12 @@ summary_of o = summary_line o.loaded o.kept
 
 -- the bytes are the text of valid evidence: of OUT with what is kept, or of a part that is incoherent
 abbrev pub IsEvidence : Loaded → List ℕ → List ℕ → Type 0
-IsEvidence loaded out bytes =
-    (e : Evidence) × IsValidEvidence loaded out e × HasText e × (bytes ≡ evidence_text e)
+IsEvidence loaded out bytes = (e : Evidence) × IsValidEvidence loaded out e
+    × HasText e × IsEvidenceValue e × (bytes ≡ evidence_text e)
 
 abbrev pub IsRefusalEvidence : Loaded → Part → List ℕ → Type 0
-IsRefusalEvidence loaded part bytes =
-    (e : Evidence) × IsValidRefusal loaded part e × HasText e × (bytes ≡ evidence_text e)
+IsRefusalEvidence loaded part bytes = (e : Evidence) × IsValidRefusal loaded part e
+    × HasText e × IsEvidenceValue e × (bytes ≡ evidence_text e)
 
 -- the IRI of a class that must have a member
 abbrev pub iri_of_class : List (List ℕ) → Expr → Option (List ℕ)

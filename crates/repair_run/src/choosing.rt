@@ -17,6 +17,7 @@ use derivation::Derivation;
 use diagnosis::{KeptRows, diagnose, kept_rows};
 use el_logic::Part;
 use evidence_text::write_evidence;
+use evidence_values::evidence_is_a_value;
 use ofn_axiom::Names;
 use repaired_table::write_table;
 use run_evidence::{evidence_against, evidence_of};
@@ -79,6 +80,7 @@ fn refusal_text(
     ensures { IfOk result (IsRefusalEvidence loaded.now part) }
 {
     let evidence = evidence_against(alloc, loaded, part, steps)?;
+    evidence_is_a_value(&evidence);
     let text = write_evidence(alloc, &evidence)?;
     Ok(text)
 }
@@ -134,6 +136,7 @@ fn kept_text(alloc: Global, loaded: &Loaded, book: &Book) -> Result<Bytes, Alloc
         (IsEvidence loaded.now (out_text_of loaded.now (kept_of book.now.marks))) }
 {
     let evidence = evidence_of(alloc, loaded, book)?;
+    evidence_is_a_value(&evidence);
     let text = write_evidence(alloc, &evidence)?;
     Ok(text)
 }
