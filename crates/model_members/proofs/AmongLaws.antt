@@ -1,5 +1,5 @@
 -- Members of expressions among given elements.
-use Rattle.std.proofs.Common.{◌≡◌, ◌<◌, ℕ, List, [], ◌∷◌, ◌++◌, length, All, Contains, ⊎_elim, sym, subst, arith}
+use Rattle.std.proofs.Common.{◌≡◌, ◌<◌, ℕ, List, [], ◌∷◌, ◌++◌, length, All, Contains, sym, subst, arith}
 use Rattle.std.specs.Prelude.{◌↔◌}
 use Rattle.std.specs.List.{filter}
 use Rattle.std.proofs.lemmas.List.Elements.{All-nil, All-push, All-contains, Contains-push}
@@ -8,12 +8,11 @@ use Rattle.el_logic.specs.declared.types.Expr.TheVariants.{And, Exists}
 use Rattle.el_logic.specs.declared.types.Axiom.TheVariants.{Domain}
 use Rattle.el_logic.specs.declared.types.Interp.{Interp}
 use Rattle.el_logic.specs.Meaning.{IsInterp, IsMember, AreRelated, Holds, pairs_of}
-use Rattle.model_members.specs.declared.sets.Members.{Members}
 use Rattle.model_members.specs.declared.sets.Members.TheVariants.{Listed}
 use Rattle.model_members.specs.Lists.{AreTurned}
 use Rattle.model_members.specs.Numbers.{has_number}
 use Rattle.model_members.specs.Inside.Pairs.{Lead}
-use Rattle.model_members.specs.Inside.Sets.{AreElements, AreListed, HasAll, IsSetOf}
+use Rattle.model_members.specs.Inside.Sets.{AreElements, AreListed, IsSetOf}
 use Rattle.model_members.proofs.SetLaws.{in_both}
 use Rattle.model_members.proofs.ClassLaws.{front_of, set_listed}
 use Rattle.model_members.proofs.KeptLaws.{listed_same}

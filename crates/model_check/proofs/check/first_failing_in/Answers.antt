@@ -8,8 +8,8 @@ use Rattle.model_check.proofs.check.first_failing_in.Goals as goal
 pub model_lists-requires : goal.model_lists-requires
 model_lists-requires c = own_counts c.args.case.now.classes c.args.case.now.properties c.args.model.now c.requires.fits
 
-pub returns-in_ok-lists : goal.returns-in_ok-lists
-returns-in_ok-lists c =
+pub returns : goal.returns
+returns c =
     let case = c.args.case.now in
     let ranks = c.args.ranks.now in
     let ordered = c.in_ok-lists.lists.ordered in

@@ -6,7 +6,7 @@ use Rattle.std.proofs.lemmas.List.{take_all}
 use Rattle.std.proofs.lemmas.List.Elements.{All-contains}
 use Rattle.std.proofs.lemmas.Result.{IfOk-weaker}
 use Rattle.el_logic.specs.declared.types.Expr.{Expr}
-use Rattle.el_logic.specs.declared.types.Expr.TheVariants.{Bottom, And, Exists}
+use Rattle.el_logic.specs.declared.types.Expr.TheVariants.{Bottom, Exists}
 use Rattle.el_logic.specs.Meaning.{IsMember, members_of}
 use Rattle.model_members.specs.declared.sets.Members.TheVariants.{Listed}
 use Rattle.model_members.specs.Numbers.{has_number}

@@ -3,7 +3,7 @@ use Rattle.std.specs.Prelude.{◌↔◌}
 use Rattle.std.proofs.lemmas.Result.{IfOk-weaker}
 use Rattle.el_logic.specs.Meaning.{IsMember, IsWithin}
 use Rattle.model_members.specs.declared.sets.Members.TheVariants.{Listed}
-use Rattle.model_members.specs.Inside.Sets.{Has, IsSet, IsSetOf}
+use Rattle.model_members.specs.Inside.Sets.{IsSet, IsSetOf}
 use Rattle.model_members.proofs.classes.is_class_within.Goals as goal
 
 pub returns-in-Whole : goal.returns-in-Whole

@@ -1,6 +1,6 @@
-use Rattle.std.proofs.Common.{◌∙◌, ℕ, List, Contains, ap, sym, subst}
-use Rattle.el_logic.specs.Meaning.{AreRelated, pairs_of}
-use Rattle.model_members.specs.declared.sets.Members.TheVariants.{Whole, Listed}
+use Rattle.std.proofs.Common.{◌∙◌, ℕ, List, ap, sym, subst}
+use Rattle.el_logic.specs.Meaning.{AreRelated}
+use Rattle.model_members.specs.declared.sets.Members.TheVariants.{Listed}
 use Rattle.model_members.specs.Inside.Pairs.{Lead}
 use Rattle.model_members.specs.Inside.Sets.{Has, AreListed, IsSetOf}
 use Rattle.model_members.proofs.AmongLaws.{before_whole, before_listed}

@@ -1,4 +1,4 @@
-use Rattle.std.proofs.Common.{◌≡◌, ◌∙◌, ℕ, List, Contains, sym, subst}
+use Rattle.std.proofs.Common.{◌∙◌, ℕ, List, Contains, sym, subst}
 use Rattle.std.specs.Prelude.{◌↔◌}
 use Rattle.el_logic.specs.Meaning.{members_of}
 use Rattle.model_members.specs.Inside.Sets.{AreElements}

@@ -1,4 +1,4 @@
-use Rattle.std.proofs.Common.{◌∙◌, ◌+◌, ℕ, List, Contains, get_or, take, sym, subst, true≢false}
+use Rattle.std.proofs.Common.{◌∙◌, ◌+◌, ℕ, List, Contains, take, sym, subst, true≢false}
 use Rattle.std.proofs.lemmas.List.{take_all}
 use Rattle.model_members.specs.Inside.Pairs.{Lead}
 use Rattle.model_members.specs.Inside.Sets.{AreListed}

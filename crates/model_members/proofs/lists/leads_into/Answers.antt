@@ -1,4 +1,4 @@
-use Rattle.std.proofs.Common.{◌∙◌, ℕ, Contains, get_or, refl, sym, subst, rules, true≢false}
+use Rattle.std.proofs.Common.{◌∙◌, Contains, get_or, refl, sym, subst, rules, true≢false}
 use Rattle.std.proofs.lemmas.Bool.{false≢true}
 use Rattle.std.proofs.lemmas.List.Elements.{All-more}
 use Rattle.model_members.specs.Inside.Pairs.{Lead}

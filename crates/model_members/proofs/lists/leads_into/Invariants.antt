@@ -1,4 +1,4 @@
-use Rattle.std.proofs.Common.{ℕ, All, Contains, take}
+use Rattle.std.proofs.Common.{All, Contains, take}
 use Rattle.model_members.proofs.lists.leads_into.Given as goal
 
 -- no step so far ends at one of them

@@ -1,9 +1,7 @@
-use Rattle.std.proofs.Common.{◌≡◌, Some, IsTrue, All, Contains, slice_get, sym}
-use Rattle.std.specs.Prelude.{◌↔◌}
+use Rattle.std.proofs.Common.{◌≡◌, Some, Contains, slice_get, sym}
 use Rattle.std.proofs.lemmas.Option.{slice_get_within, get_or_from_slice_get}
 use Rattle.std.proofs.lemmas.List.Elements.{All-weaker, All-contains_itself}
-use Rattle.el_logic.specs.declared.types.Axiom.TheVariants.{EquivalentRoles}
-use Rattle.el_logic.specs.Meaning.{Holds, pairs_of}
+use Rattle.el_logic.specs.Meaning.{pairs_of}
 use Rattle.model_members.specs.Inside.Pairs.{HasPairs}
 use Rattle.model_members.proofs.PropertyLaws.{all_same_pairs, same_by, through}
 use Rattle.model_members.proofs.properties.are_equivalent_properties.Goals as goal

@@ -1,4 +1,3 @@
-use Rattle.std.proofs.Common.{ℕ, List}
 use Rattle.el_logic.specs.Meaning.{pairs_of}
 use Rattle.model_members.proofs.PropertyLaws.{same_by, through, transitive_by}
 use Rattle.model_members.proofs.properties.is_transitive.Goals as goal
