@@ -1,6 +1,4 @@
-use Rattle.std.proofs.Common.{◌≡◌, ℕ, length, subst, sym}
 use Rattle.std.proofs.lemmas.Result.{IfOk-weaker}
-use Rattle.el_logic.specs.Meaning.{IsInterp}
 use Rattle.model_check.specs.Inside.Lists.{FindsFailingOf}
 use Rattle.model_check.proofs.FailLaws.{own_counts, finds_over}
 use Rattle.model_check.proofs.check.first_failing_in.Goals as goal
