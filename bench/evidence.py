@@ -18,6 +18,8 @@ from driver import built_driver
 DRIVER = """//! Reads the file `evidence` of its folder, and writes what it has read.
 #![tactic(auto)]
 
+ghost use Rattle.evidence_text.specs.EvidenceText.{HasText};
+
 use anyhow::Result;
 use evidence_text::{Evidence, read_evidence, write_evidence};
 use std::fs;
@@ -29,22 +31,10 @@ fn print(rt: &HostRuntime, what: &str, begin: Instant) -> Result<()> {
     Ok(())
 }
 
-fn read(rt: &HostRuntime, text: &[u8]) -> Result<Option<Evidence>> {
-    let begin = Instant::now(rt)?;
-    match read_evidence(rt.alloc(), text) {
-        Ok(evidence) => {
-            print(rt, "read", begin)?;
-            Ok(Some(evidence))
-        }
-        Err(fault) => {
-            println!(rt; "{fault}")?;
-            print(rt, "refused", begin)?;
-            Ok(None)
-        }
-    }
-}
-
-fn write(rt: &HostRuntime, evidence: &Evidence, text: &[u8]) -> Result<()> {
+// It has a text, as all that is read from one has.
+fn write(rt: &HostRuntime, evidence: &Evidence, text: &[u8]) -> Result<()>
+    requires { HasText evidence.now }
+{
     let begin = Instant::now(rt)?;
     let written = write_evidence(rt.alloc(), evidence)?;
     print(rt, "written", begin)?;
@@ -54,12 +44,23 @@ fn write(rt: &HostRuntime, evidence: &Evidence, text: &[u8]) -> Result<()> {
     Ok(())
 }
 
+fn measure(rt: &HostRuntime, text: &[u8]) -> Result<()> {
+    let begin = Instant::now(rt)?;
+    match read_evidence(rt.alloc(), text) {
+        Ok(evidence) => {
+            print(rt, "read", begin)?;
+            write(rt, &evidence, text)
+        }
+        Err(fault) => {
+            println!(rt; "{fault}")?;
+            print(rt, "refused", begin)
+        }
+    }
+}
+
 fn main(rt: HostRuntime) -> Result<()> {
     let text = fs::read(&rt, "evidence")?;
-    match read(&rt, text.as_slice())? {
-        Some(evidence) => write(&rt, &evidence, text.as_slice()),
-        None => Ok(()),
-    }
+    measure(&rt, text.as_slice())
 }
 """
 
