@@ -6,11 +6,7 @@ mod fault;
 mod files;
 mod laws;
 mod rows;
-#[cfg(test)]
-mod shapes;
 mod table;
-#[cfg(test)]
-mod tests;
 mod texts;
 
 pub use documents::Documents;

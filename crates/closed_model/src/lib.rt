@@ -7,8 +7,6 @@ mod laws;
 mod lists;
 mod model;
 mod table;
-#[cfg(test)]
-mod tests;
 
 pub use laws::{
     a_closed_table_shows_coherence, a_model_shows_coherence, closed_facts_show_members,

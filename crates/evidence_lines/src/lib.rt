@@ -13,8 +13,6 @@ mod put_first;
 mod put_model;
 mod rules;
 mod steps;
-#[cfg(test)]
-mod tests;
 mod types;
 
 pub use events::entry_of;

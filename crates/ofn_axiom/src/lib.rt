@@ -11,8 +11,6 @@ mod marks;
 mod numbers;
 mod ontology;
 mod read;
-#[cfg(test)]
-mod tests;
 mod types;
 
 pub use fault::{DocFault, DocKind};

@@ -5,8 +5,6 @@ mod axioms;
 mod laws;
 mod names;
 mod predicates;
-#[cfg(test)]
-mod tests;
 
 pub use axioms::axioms_of_row;
 pub use laws::{

@@ -10,8 +10,6 @@ mod places;
 mod records;
 mod rows;
 mod table;
-#[cfg(test)]
-mod tests;
 
 pub use column::Column;
 pub use fault::TableFault;

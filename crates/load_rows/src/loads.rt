@@ -1,6 +1,6 @@
 //! Limits, and the first fault where several stand.
 
-use crate::{LimitKind, LoadFault, Loaded, assemble, load};
+use case_load::{LimitKind, LoadFault, Loaded, assemble, load};
 use el_logic::Side;
 use io_edge::{MemFolder, Role};
 use ofn_axiom::{DocKind, Mode};

@@ -1,10 +1,10 @@
 //! Lines that take memory, written and read.
 
-use crate::{
+use el_logic::Side;
+use evidence_lines::{
     NodeLine, RoleLine, members_of, node_of, pairs_of, put_members, put_node, put_pairs, put_role,
     role_of,
 };
-use el_logic::Side;
 use line_fields::Fields;
 use std::test::Fail;
 use text_names::{Bytes, Text};

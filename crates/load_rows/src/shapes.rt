@@ -1,6 +1,6 @@
 //! The nodes and roles of small cases.
 
-use crate::tests::{made, with_rows};
+use crate::loads::{made, with_rows};
 use case_file::Case;
 use concept_store::{Node, RoleNode};
 use ofn_axiom::Mode;

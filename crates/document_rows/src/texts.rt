@@ -1,7 +1,7 @@
 //! Documents with their readings and faults, as the format has them.
 
-use crate::{DocFault, Document, Mode, Names, Omitted, read_document};
 use el_logic::{Axiom, Expr};
+use ofn_axiom::{DocFault, Document, Mode, Names, Omitted, read_document};
 use std::alloc::{AllocError, Global};
 use std::test::Fail;
 use text_names::{Limits, NameTable, Place};

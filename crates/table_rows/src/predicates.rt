@@ -1,7 +1,7 @@
 //! Rows of each predicate, between classes and properties.
 
-use crate::axioms_of_row;
 use el_logic::{Axiom, Axioms, Expr};
+use predicate_axioms::axioms_of_row;
 use sssom_rows::read_table;
 use std::alloc::Global;
 use std::test::Fail;

@@ -1,6 +1,6 @@
 //! Tables of each form, and each fault.
 
-use crate::{Column, Row, Table, TableFault, read_table};
+use sssom_rows::{Column, Row, Table, TableFault, read_table};
 use std::alloc::Global;
 use std::test::Fail;
 use text_names::Text;

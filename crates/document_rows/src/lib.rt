@@ -1,0 +1,5 @@
+//! Worked documents: what each reads as, or its first fault. The crate holds tests alone.
+#![tactic(auto)]
+
+#[cfg(test)]
+mod texts;
