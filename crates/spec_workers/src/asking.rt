@@ -2,8 +2,9 @@
 
 ghost use Rattle.std.specs.Prelude.{◌≡◌, ◌<◌, ◌∷◌, [], IfOk, OnErr};
 ghost use Rattle.accuse_core.specs.declared.event.Event.TheVariants as E;
-ghost use Rattle.commit_book.specs.Books.{ranks_of};
+ghost use Rattle.commit_book.specs.Books.{ranks_of, worker_of};
 ghost use Rattle.commit_book.specs.Answers.{take_reply, front_reply};
+ghost use Rattle.commit_lock.specs.Entries.{GrowsBy};
 ghost use Rattle.commit_lock.specs.Seats.{IsSeatOf, IsIdle, KeepsPlace, number, seen};
 ghost use Rattle.spec_workers.specs.Books.{lock_case, ranks_at, Tells};
 ghost use Rattle.spec_workers.specs.Turns.{entry};
@@ -25,16 +26,18 @@ fn take(
     rank: u32,
 ) -> Result<TakeAnswer, AllocError>
     requires inside { rank < ranks_of book.old.case }
+    ensures grown { GrowsBy (λ entry. worker_of entry.event) worker book.old.entries
+        book.new.entries }
     ensures told { IfOk result (λ answer. IsGrown worker book.old book.new
         (entry (E.Take worker rank) (take_reply answer) ∷ [])) }
     ensures given { IfOk result (GivesTake book.new.case book.new.entries rank) }
     ensures refused { OnErr result (IsGrown worker book.old book.new []) }
 {
+    book.reserve_turn(alloc)?;
     books_are_sound(book);
     asking_leaves_the_marks();
     front_is_the_least_undecided_rank();
     let _ = book.journal();
-    book.reserve_turn(alloc)?;
     let answer = book.take(worker, rank);
     let _ = book.journal();
     Ok(answer)
@@ -42,16 +45,18 @@ fn take(
 
 // Takes the rank at the front of a book.
 fn take_front(alloc: Global, book: &mut Book, worker: u32) -> Result<FrontAnswer, AllocError>
+    ensures grown { GrowsBy (λ entry. worker_of entry.event) worker book.old.entries
+        book.new.entries }
     ensures told { IfOk result (λ answer. IsGrown worker book.old book.new
         (entry (E.TakeFront worker) (front_reply answer) ∷ [])) }
     ensures given { IfOk result (GivesFrontTake book.new.case book.new.entries) }
     ensures refused { OnErr result (IsGrown worker book.old book.new []) }
 {
+    book.reserve_turn(alloc)?;
     books_are_sound(book);
     asking_leaves_the_marks();
     front_is_the_least_undecided_rank();
     let _ = book.journal();
-    book.reserve_turn(alloc)?;
     let answer = book.take_front(worker);
     let _ = book.journal();
     Ok(answer)

@@ -3,7 +3,8 @@
 ghost use Rattle.std.specs.Prelude.{◌≡◌, List, ◌∷◌, [], ◌++◌, IfOk, OnOk, OnErr};
 ghost use Rattle.accuse_core.specs.declared.journal.Entry.{Entry};
 ghost use Rattle.saturate.specs.Decisions.{IsVerdict};
-ghost use Rattle.commit_lock.specs.Entries.{IsBeginning};
+ghost use Rattle.commit_book.specs.Books.{worker_of};
+ghost use Rattle.commit_lock.specs.Entries.{IsBeginning, GrowsBy};
 ghost use Rattle.commit_lock.specs.Seats.{IsSeatOf, IsIdle, KeepsPlace, number, seen};
 ghost use Rattle.spec_workers.specs.Books.{lock_case, Tells};
 ghost use Rattle.spec_workers.specs.Turns.{IsVerdictOn};
@@ -26,11 +27,12 @@ fn tell_book(
     taken: &Taken,
     verdict: Verdict,
 ) -> Result<(), AllocError>
-    ghost earlier: { List Entry }
-    requires begins { IsBeginning earlier book.old.entries }
-    requires taken { IsTakenAt book.old.case earlier taken.now }
+    requires taken { (earlier : List Entry) × IsBeginning earlier book.old.entries
+        × IsTakenAt book.old.case earlier taken.now }
     requires verdict { IsVerdict book.old.case (taken.now.snapshot.ranks ++ taken.now.rank ∷ [])
         verdict }
+    ensures grown { GrowsBy (λ entry. worker_of entry.event) worker book.old.entries
+        book.new.entries }
     ensures told { OnOk result ((told : Entry) × IsVerdictOn worker taken.now.rank taken.now.seen told
         × IsGrown worker book.old book.new (told ∷ [])) }
     ensures refused { OnErr result (IsGrown worker book.old book.new []) }
