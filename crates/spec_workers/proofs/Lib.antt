@@ -1,2 +1,4 @@
 pub mod Holds
 pub mod GivenTakes
+pub mod TurnSteps
+pub mod StageLemmas

@@ -55,7 +55,8 @@ fn take_drawn<R: Wait, G: Gate>(
             return Ok(made);
         };
         match take_turn(rt, alloc, lock, seat, gate, rank) {
-            Ok(tested) => made += u32::from(tested),
+            Ok(true) => made += 1,
+            Ok(false) => {}
             Err(_) => return Err(WorkEnd::OutOfMemory),
         }
     }
