@@ -2,3 +2,4 @@ pub mod Holds
 pub mod GivenTakes
 pub mod TurnSteps
 pub mod StageLemmas
+pub mod EndLemmas

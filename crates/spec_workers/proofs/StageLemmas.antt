@@ -1,7 +1,7 @@
 -- Turns one after another.
-use Rattle.std.proofs.Common.{◌≡◌, ℕ, zero, suc, ◌+◌, ◌≤◌, ◌<◌, Bool, true, false, cond, List, [], ◌∷◌, ◌++◌, refl, sym, ap, ◌∙◌, subst, arith, ⊎_elim}
-use Rattle.std.specs.List.{count_by}
+use Rattle.std.proofs.Common.{◌≡◌, ℕ, zero, suc, ◌+◌, ◌≤◌, ◌<◌, Bool, true, false, cond, List, [], ◌∷◌, ◌++◌, refl, sym, ap, ◌∙◌, subst, arith, ⊎_elim, inl, inr}
 use Rattle.std.proofs.lemmas.List.{append_assoc, append-nil}
+use Rattle.std.proofs.lemmas.List.Sums.{sum_by-append, sum_by-cons}
 use Rattle.accuse_core.specs.declared.event.Event.{Event}
 use Rattle.accuse_core.specs.declared.event.Event.TheVariants.{No, Yes}
 use Rattle.accuse_core.specs.declared.journal.Entry.{Entry}
@@ -11,17 +11,12 @@ use Rattle.spec_workers.specs.Inside.Steps.{IsTakeStep}
 use Rattle.spec_workers.specs.Inside.Stages.{IsTaking, HasTaken, HasFronts}
 use Rattle.spec_workers.proofs.Holds.{tells_nothing, tells_then}
 
--- one more or not, on both sides
-count_step : (b : Bool) (all one other : ℕ) → all ≡ one + other
-    → cond {A = ℕ} b (1 + all) all ≡ cond {A = ℕ} b (1 + one) one + other
-count_step true all one other is = omega (arith, is)
-count_step false all one other is = is
+abbrev one_if_verdict : Entry → ℕ
+one_if_verdict e = cond {A = ℕ} (is_verdict e.event) 1 0
 
 -- the verdicts of two lists
 pub verdicts_of_both : (one other : List Entry) → verdicts_in (one ++ other) ≡ verdicts_in one + verdicts_in other
-verdicts_of_both [] other = refl
-verdicts_of_both (e ∷ es) other =
-    count_step (is_verdict e.event) (verdicts_in (es ++ other)) (verdicts_in es) (verdicts_in other) (verdicts_of_both es other)
+verdicts_of_both one other = sum_by-append one_if_verdict one other
 
 -- a verdict is one
 verdict_is_one : (worker rank seen : ℕ) (told : Entry) → IsVerdictOn worker rank seen told → is_verdict told.event ≡ true
@@ -32,10 +27,11 @@ verdict_is_one worker rank seen told verdict =
 pub tested_is_one : (worker rank seen : ℕ) (asked : Entry) (told : List Entry) → is_verdict asked.event ≡ false
     → IsTested worker rank seen asked told → verdicts_in told ≡ 1
 tested_is_one worker rank seen asked told request tested =
-    let verdict = verdict_is_one worker rank seen tested.0 tested.1 in
-    ap verdicts_in tested.2
-    ∙ (ap (λ b. cond {A = ℕ} b (1 + verdicts_in (tested.0 ∷ [])) (verdicts_in (tested.0 ∷ []))) request
-    ∙ ap (λ b. cond {A = ℕ} b 1 0) verdict)
+    let verdict = ap (λ (b : Bool). cond {A = ℕ} b 1 0) (verdict_is_one worker rank seen tested.0 tested.1) in
+    let none = ap (λ (b : Bool). cond {A = ℕ} b 1 0) request in
+    let all = ap verdicts_in tested.2 ∙ sum_by-cons one_if_verdict asked (tested.0 ∷ []) in
+    let last = sum_by-cons one_if_verdict tested.0 [] in
+    omega (arith, verdict, none, all, last)
 
 -- one rank more
 pub taken_more : (worker rank : ℕ) (ranks : List ℕ) (told more : List Entry) → AreTaken worker ranks told
@@ -78,3 +74,49 @@ nothing_taken worker budget drawn seen = record {
 -- no front is taken yet
 pub no_fronts : (worker : ℕ) (seen : List Entry) → HasFronts worker 0 seen seen
 no_fronts worker seen = record { told = []; tells = tells_nothing worker seen; taken = refl }
+
+-- what one step of taking tells is one take, with one verdict if it was tested
+step_is_take : (worker rank : ℕ) (tested : Bool) (told : List Entry) → IsTakeStep worker rank tested told
+    → IsTake worker rank told × (verdicts_in told ≡ cond {A = ℕ} tested 1 0)
+step_is_take worker rank true told step = (inr step, tested_is_one worker rank step.0 _ told refl step.1)
+step_is_take worker rank false told step = (inl step, ap verdicts_in step)
+
+-- one rank more is drawn and taken
+pub more_taken : (worker later budget rank made next : ℕ) (tested : Bool) (drawn_first drawn_before drawn_after : List ℕ)
+    (first before after : List Entry) → later ≡ worker → next ≡ made + cond {A = ℕ} tested 1 0 → next ≤ budget
+    → HasTaken worker budget drawn_first drawn_before first before made
+    → drawn_after ≡ drawn_before ++ rank ∷ []
+    → (told : List Entry) × Tells later before after told × IsTakeStep later rank tested told
+    → HasTaken worker budget drawn_first drawn_after first after next
+more_taken worker later budget rank made next tested drawn_first drawn_before drawn_after first before after same count few so_far drew step =
+    let here = subst (λ (n : ℕ). (told : List Entry) × Tells n before after told × IsTakeStep n rank tested told) same step in
+    let take = step_is_take worker rank tested here.0 here.2 in
+    let tests = so_far.taking.tests in
+    let one = take.1 in
+    let both = verdicts_of_both so_far.told here.0 in
+    record {
+      draws = so_far.draws ++ rank ∷ [];
+      told = so_far.told ++ here.0;
+      drawn = drew ∙ (ap (λ (l : List ℕ). l ++ rank ∷ []) so_far.drawn ∙ append_assoc drawn_first so_far.draws (rank ∷ []));
+      tells = tells_then worker first before after so_far.told here.0 so_far.tells here.1;
+      taking = record {
+        taken = taken_more worker rank so_far.draws so_far.told here.0 so_far.taking.taken take.0;
+        tests = omega (arith, count, tests, one, both);
+        within = few;
+      };
+    }
+
+-- the rank at the front is taken once more
+pub more_fronts : (worker later count next : ℕ) (first before after : List Entry) → later ≡ worker → next ≡ count + 1
+    → HasFronts worker count first before
+    → (told : List Entry) × Tells later before after told × IsFrontTaken later told
+    → HasFronts worker next first after
+more_fronts worker later count next first before after same one so_far step =
+    let here = subst (λ (n : ℕ). (told : List Entry) × Tells n before after told × IsFrontTaken n told) same step in
+    let is : suc count ≡ next = omega (arith, one) in
+    record {
+      told = so_far.told ++ here.0;
+      tells = tells_then worker first before after so_far.told here.0 so_far.tells here.1;
+      taken = subst (λ (n : ℕ). AreFrontsTaken worker n (so_far.told ++ here.0)) is
+          (fronts_more worker count so_far.told here.0 so_far.taken here.2);
+    }

@@ -1,0 +1,24 @@
+use Rattle.std.proofs.Common.{◌≡◌, ◌∙◌, refl, true, ℕ, ◌+◌, suc, subst, arith, Bool, List}
+use Rattle.accuse_core.specs.declared.journal.Entry.{Entry}
+use Rattle.commit_lock.specs.Seats.{number, seen}
+use Rattle.spec_workers.specs.Books.{Tells}
+use Rattle.spec_workers.specs.Inside.Steps.{IsFrontStep}
+use Rattle.spec_workers.specs.Inside.Stages.{HasFronts}
+use Rattle.spec_workers.proofs.StageLemmas.{more_fronts}
+use Rattle.spec_workers.proofs.working.take_fronts.Goals as goal
+
+pub loop-preserved : goal.loop-preserved
+loop-preserved g c =
+    let before = c.loop.seat in
+    let after = c.front_turn.new.seat in
+    let was = c.loop.invariant.same in
+    let same = c.front_turn.ensures.same in
+    let step = subst (λ (b : Bool). (told : List Entry) × Tells (number before) (seen before) (seen after) told × IsFrontStep (number before) b told)
+        c.in-Ok-true.field-0-test c.in-Ok-true.ensures.ok in
+    record {
+      lock = c.front_turn.ensures.lock;
+      idle = c.front_turn.ensures.idle;
+      same = (same.0 ∙ was.0, same.1 ∙ was.1, same.2 ∙ was.2);
+      fronts = more_fronts (number c.args.seat.now) (number before) c.loop.counter (c.loop.counter + 1) (seen c.args.seat.now) (seen before) (seen after)
+          was.0 refl c.loop.invariant.fronts step;
+    }
