@@ -98,11 +98,15 @@ module _ (n worker budget made : ℕ) (draws : List ℕ) (told : List Entry)
 pub all_work : (n worker later budget made : ℕ) (drawn_before drawn_after : List ℕ) (before between after : List Entry) (end : WorkEnd)
     → later ≡ worker
     → (draws : List ℕ) × (told : List Entry) × (drawn_after ≡ drawn_before ++ draws)
-        × Tells worker before between told × IsDrawnOut n worker budget draws told made
+    × Tells worker before between told × IsDrawnOut n worker budget draws told made
     → (told : List Entry) × Tells later between after told × IsFrontWork later (budget - made) told end
     → (draws : List ℕ) × (told : List Entry) × (drawn_after ≡ drawn_before ++ draws)
-        × Tells worker before after told × IsWork n worker budget draws told end
+    × Tells worker before after told × IsWork n worker budget draws told end
 all_work n worker later budget made drawn_before drawn_after before between after end same first second =
-    let here = subst (λ (w : ℕ). (told : List Entry) × Tells w between after told × IsFrontWork w (budget - made) told end) same second in
-    (first.0, first.1 ++ here.0, first.2, tells_then worker before between after first.1 here.0 first.3 here.1,
-        ended n worker budget made first.0 first.1 first.4 here.0 end here.2)
+    let here = subst (λ (w : ℕ). (told : List Entry) × Tells w between after told × IsFrontWork w (budget - made) told end) same second in (
+      first.0,
+      first.1 ++ here.0,
+      first.2,
+      tells_then worker before between after first.1 here.0 first.3 here.1,
+      ended n worker budget made first.0 first.1 first.4 here.0 end here.2,
+    )

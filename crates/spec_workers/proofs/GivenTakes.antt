@@ -77,9 +77,11 @@ given_take before after rank (T.Seen taken) same case ahead decided inside reply
     let seen = seen_of (is_decided (mark_at before.marks rank)) before.marks taken.seen reply in
     let late = front_le before.marks rank decided seen.0 in
     let of_case = subst (λ (of : CaseView). (rank < ranks_of of)
-        × IsTableFor of (take taken.seen (kept_of before.marks)) taken.snapshot) case (inside, given.1) in
-    (given.0, taken_at after.case after.entries before.marks taken same ahead
-        (omega (arith, late, given.0)) (omega (arith, of_case.0, given.0)) seen.1 of_case.1)
+    × IsTableFor of (take taken.seen (kept_of before.marks)) taken.snapshot) case (inside, given.1) in (
+      given.0,
+      taken_at after.case after.entries before.marks taken same ahead
+          (omega (arith, late, given.0)) (omega (arith, of_case.0, given.0)) seen.1 of_case.1,
+    )
 
 -- an answer that gives the rank at the front gives it after these entries
 pub given_front : (before after : BookView) (answer : FrontAnswer)
@@ -94,7 +96,7 @@ given_front before after (F.Front taken) same case ahead within count reply give
     let some = seen.0 in
     let inside : taken.rank < ranks_of before.case = search (arith, some, within, count, seen.1) in
     let of_case = subst (λ (of : CaseView). (taken.rank < ranks_of of)
-        × IsTableFor of (take taken.seen (kept_of before.marks)) taken.snapshot) case (inside, given) in
+    × IsTableFor of (take taken.seen (kept_of before.marks)) taken.snapshot) case (inside, given) in
     let rank_is = seen.1 in
     taken_at after.case after.entries before.marks taken same ahead
-        (omega (arith, rank_is)) of_case.0 seen.2 of_case.1
+    (omega (arith, rank_is)) of_case.0 seen.2 of_case.1

@@ -38,18 +38,26 @@ pub taken_more : (worker rank : ℕ) (ranks : List ℕ) (told more : List Entry)
     → IsTake worker rank more → AreTaken worker (ranks ++ rank ∷ []) (told ++ more)
 taken_more worker rank [] told more none take =
     (more, [], ap (λ (l : List Entry). l ++ more) none ∙ sym (append-nil more), take, refl)
-taken_more worker rank (r ∷ rs) told more taken take =
-    (taken.0, taken.1 ++ more, ap (λ (l : List Entry). l ++ more) taken.2 ∙ append_assoc taken.0 taken.1 more, taken.3,
-        taken_more worker rank rs taken.1 more taken.4 take)
+taken_more worker rank (r ∷ rs) told more taken take = (
+  taken.0,
+  taken.1 ++ more,
+  ap (λ (l : List Entry). l ++ more) taken.2 ∙ append_assoc taken.0 taken.1 more,
+  taken.3,
+  taken_more worker rank rs taken.1 more taken.4 take,
+)
 
 -- one front more
 pub fronts_more : (worker count : ℕ) (told more : List Entry) → AreFrontsTaken worker count told
     → IsFrontTaken worker more → AreFrontsTaken worker (suc count) (told ++ more)
 fronts_more worker zero told more none front =
     (more, [], ap (λ (l : List Entry). l ++ more) none ∙ sym (append-nil more), front, refl)
-fronts_more worker (suc count) told more taken front =
-    (taken.0, taken.1 ++ more, ap (λ (l : List Entry). l ++ more) taken.2 ∙ append_assoc taken.0 taken.1 more, taken.3,
-        fronts_more worker count taken.1 more taken.4 front)
+fronts_more worker (suc count) told more taken front = (
+  taken.0,
+  taken.1 ++ more,
+  ap (λ (l : List Entry). l ++ more) taken.2 ∙ append_assoc taken.0 taken.1 more,
+  taken.3,
+  fronts_more worker count taken.1 more taken.4 front,
+)
 
 -- each front has one verdict
 pub fronts_count : (worker count : ℕ) (told : List Entry) → AreFrontsTaken worker count told → verdicts_in told ≡ count

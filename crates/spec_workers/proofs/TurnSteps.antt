@@ -20,10 +20,12 @@ pub take_tested : (number later rank given seen : ℕ) (before asked after : Lis
     → (told : List Entry) × Tells number before after told × IsTakeStep number rank true told
 take_tested number later rank given seen before asked after same is took told =
     let here = subst (λ (n : ℕ). TellsVerdict n rank seen asked after) same
-        (subst (λ (r : ℕ). TellsVerdict later r seen asked after) is told) in
-    let request = entry (Take number rank) (Seen seen) in
-    (request ∷ here.0 ∷ [], tells_then number before asked after (request ∷ []) (here.0 ∷ []) took here.2,
-        (seen, (here.0, here.1, refl)))
+    (subst (λ (r : ℕ). TellsVerdict later r seen asked after) is told) in
+    let request = entry (Take number rank) (Seen seen) in (
+      request ∷ here.0 ∷ [],
+      tells_then number before asked after (request ∷ []) (here.0 ∷ []) took here.2,
+      (seen, (here.0, here.1, refl)),
+    )
 
 -- the rank at the front is taken, and the verdict on it told
 pub front_tested : (number later rank seen : ℕ) (before asked after : List Entry) → later ≡ number
@@ -32,6 +34,8 @@ pub front_tested : (number later rank seen : ℕ) (before asked after : List Ent
     → (told : List Entry) × Tells number before after told × IsFrontStep number true told
 front_tested number later rank seen before asked after same took told =
     let here = subst (λ (n : ℕ). TellsVerdict n rank seen asked after) same told in
-    let request = entry (TakeFront number) (Front rank seen) in
-    (request ∷ here.0 ∷ [], tells_then number before asked after (request ∷ []) (here.0 ∷ []) took here.2,
-        (rank, seen, (here.0, here.1, refl)))
+    let request = entry (TakeFront number) (Front rank seen) in (
+      request ∷ here.0 ∷ [],
+      tells_then number before asked after (request ∷ []) (here.0 ∷ []) took here.2,
+      (rank, seen, (here.0, here.1, refl)),
+    )

@@ -19,12 +19,7 @@ use std::alloc::{AllocError, Global};
 use std::sync::Wait;
 
 // Takes a rank in a book.
-fn take(
-    alloc: Global,
-    book: &mut Book,
-    worker: u32,
-    rank: u32,
-) -> Result<TakeAnswer, AllocError>
+fn take(alloc: Global, book: &mut Book, worker: u32, rank: u32) -> Result<TakeAnswer, AllocError>
     requires inside { rank < ranks_of book.old.case }
     ensures grown { GrowsBy (λ entry. worker_of entry.event) worker book.old.entries
         book.new.entries }

@@ -25,7 +25,7 @@ returns-clause-told g c =
     (λ answer. IsGrown c.number-worker.result c.enter-book.result book (entry (E.Take c.number-worker.result rank) (take_reply answer) ∷ []))
     (λ answer. Tells (number seat) (seen seat) (seen c.leave.new.seat) (entry (E.Take (number seat) rank) (take_reply answer) ∷ []))
     (λ answer grown. held (number seat) (seen seat) (seen c.leave.new.seat) c.enter-book.result book (entry (E.Take (number seat) rank) (take_reply answer) ∷ [])
-        c.enter-book.ensures.seen c.enter-book.ensures.own
-        (subst (λ w. IsGrown w c.enter-book.result book (entry (E.Take w rank) (take_reply answer) ∷ [])) c.number-worker.ensures grown)
-        c.leave.ensures.seen)
+    c.enter-book.ensures.seen c.enter-book.ensures.own
+    (subst (λ w. IsGrown w c.enter-book.result book (entry (E.Take w rank) (take_reply answer) ∷ [])) c.number-worker.ensures grown)
+    c.leave.ensures.seen)
     c.take-answer.ensures.told

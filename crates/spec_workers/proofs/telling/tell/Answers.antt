@@ -14,8 +14,11 @@ returns-clause-told g c =
     let same = c.number-worker.ensures in
     on_ok_weaker c.tell_book-answer.result
     (λ told.
-        let verdict = subst (λ w. IsVerdictOn w taken.rank taken.seen told.0) same told.1 in
-        let grown = subst (λ w. IsGrown w c.enter-book.result book (told.0 ∷ [])) same told.2 in
-        (told.0, verdict, held (number seat) (seen seat) (seen c.leave.new.seat) c.enter-book.result book (told.0 ∷ [])
-            c.enter-book.ensures.seen c.enter-book.ensures.own grown c.leave.ensures.seen))
+    let verdict = subst (λ w. IsVerdictOn w taken.rank taken.seen told.0) same told.1 in
+    let grown = subst (λ w. IsGrown w c.enter-book.result book (told.0 ∷ [])) same told.2 in (
+      told.0,
+      verdict,
+      held (number seat) (seen seat) (seen c.leave.new.seat) c.enter-book.result book (told.0 ∷ [])
+          c.enter-book.ensures.seen c.enter-book.ensures.own grown c.leave.ensures.seen,
+    ))
     c.tell_book-answer.ensures.told

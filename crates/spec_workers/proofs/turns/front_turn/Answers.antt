@@ -14,6 +14,6 @@ returns-in_ok-test_and_tell-in-Front-clause-ok g c =
     let asked = c.ask_front.new.seat in
     let taken = c.in-Front.taken in
     let told = subst (λ (a : FrontAnswer). Tells (number seat) (seen seat) (seen asked) (entry (TakeFront (number seat)) (front_reply a) ∷ []))
-        c.in-Front.is c.in_ok-ask_front.ensures.told in
+    c.in-Front.is c.in_ok-ask_front.ensures.told in
     front_tested (number seat) (number asked) taken.rank taken.seen (seen seat) (seen asked) (seen c.test_and_tell.new.seat)
     c.in_ok-ask_front.ensures.same.0 told c.in_ok-test_and_tell-in-Front.ensures.told

@@ -16,7 +16,7 @@ returns-in_ok-test_and_tell-in-Seen-clause-ok g c =
     let asked = c.ask.new.seat in
     let taken = c.in-Seen.taken in
     let told = subst (λ (a : TakeAnswer). Tells (number seat) (seen seat) (seen asked) (entry (Take (number seat) rank) (take_reply a) ∷ []))
-        c.in-Seen.is c.in_ok-ask.ensures.told in
+    c.in-Seen.is c.in_ok-ask.ensures.told in
     let given = subst (λ (a : TakeAnswer). GivesTake (lock_case c.args.lock.now) (seen asked) rank a) c.in-Seen.is c.in_ok-ask.ensures.given in
     take_tested (number seat) (number asked) rank taken.rank taken.seen (seen seat) (seen asked) (seen c.test_and_tell.new.seat)
     c.in_ok-ask.ensures.same.0 given.0 told c.in_ok-test_and_tell-in-Seen.ensures.told

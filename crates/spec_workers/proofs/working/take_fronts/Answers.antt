@@ -14,7 +14,7 @@ loop-preserved g c =
     let was = c.loop.invariant.same in
     let same = c.front_turn.ensures.same in
     let step = subst (λ (b : Bool). (told : List Entry) × Tells (number before) (seen before) (seen after) told × IsFrontStep (number before) b told)
-        c.in-Ok-true.field-0-test c.in-Ok-true.ensures.ok in
+    c.in-Ok-true.field-0-test c.in-Ok-true.ensures.ok in
     record {
       lock = c.front_turn.ensures.lock;
       idle = c.front_turn.ensures.idle;
