@@ -7,13 +7,13 @@ use Rattle.accuse_core.specs.declared.journal.Entry.{Entry}
 use Rattle.spec_workers.specs.declared.types.WorkEnd.{WorkEnd}
 use Rattle.spec_workers.specs.declared.types.WorkEnd.TheVariants.{Done, Budget, OutOfMemory}
 use Rattle.spec_workers.specs.Books.{Tells}
-use Rattle.spec_workers.specs.Turns.{entry, AreFrontsTaken, IsAtFront, IsBegun, IsWork, verdicts_in}
+use Rattle.spec_workers.specs.Turns.{entry, AreFrontsTaken, IsAtFront, IsCutTurn, IsWork, verdicts_in}
 use Rattle.spec_workers.specs.Inside.Stages.{IsDrawnOut, IsFrontWork}
 use Rattle.spec_workers.proofs.Holds.{tells_then}
 use Rattle.spec_workers.proofs.StageLemmas.{verdicts_of_both, fronts_count}
 
 -- what was begun at the front is no verdict
-begun_none : (worker : ℕ) (begun : List Entry) → IsBegun worker [] begun → verdicts_in begun ≡ 0
+begun_none : (worker : ℕ) (begun : List Entry) → IsCutTurn worker [] begun → verdicts_in begun ≡ 0
 begun_none worker [] is = refl
 begun_none worker (asked ∷ []) is = ap (λ e. verdicts_in (e ∷ [])) is.2
 begun_none worker (a ∷ b ∷ more) is = absurd is

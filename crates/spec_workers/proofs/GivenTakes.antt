@@ -1,5 +1,5 @@
 -- What is given to test is what the core replied.
-use Rattle.std.proofs.Common.{◌≡◌, ℕ, ◌≤◌, ◌<◌, nat_lt, Bool, true, false, List, All, Contains, length, take, if◌then◌else◌, ◌==◌, refl, sym, ap, ◌∙◌, subst, arith}
+use Rattle.std.proofs.Common.{◌≡◌, ℕ, ◌≤◌, ◌<◌, nat_lt, Bool, true, false, List, ◌++◌, All, Contains, length, take, if◌then◌else◌, ◌==◌, refl, sym, ap, ◌∙◌, subst, arith}
 use Rattle.std.proofs.lemmas.Bool.{ltb-true, ltb-false}
 use Rattle.std.proofs.lemmas.List.Elements.{All-contains_itself, All-weaker, All-take}
 use Rattle.case_file.specs.Cases.{CaseView}
@@ -17,7 +17,7 @@ use Rattle.commit_book.specs.declared.answers.FrontAnswer.{FrontAnswer}
 use Rattle.commit_book.specs.declared.answers.FrontAnswer.TheVariants as F
 use Rattle.commit_book.specs.Books.{BookView, IsTableFor, ranks_of}
 use Rattle.commit_book.specs.Answers.{take_reply, front_reply, GivesRank, GivesFront}
-use Rattle.spec_workers.specs.Inside.Asked.{marks_after, IsTakenAt, GivesTake, GivesFrontTake}
+use Rattle.spec_workers.specs.Inside.Asked.{marks_after, IsTakenAt, GivesTake, GivesFrontTake, KeepsFirstOf}
 
 -- a rank that may be tested is not decided, and is to be tested against all kept ranks
 seen_of : (decided : Bool) (marks : List Mark) (seen : ℕ)
@@ -42,14 +42,14 @@ front_le_by marks rank true is decided undecided =
 front_le_by marks rank false is decided undecided = ltb-false rank (front_of marks) is
 
 -- a rank that is not decided is not before the front
-front_le : (marks : List Mark) (rank : ℕ)
+pub front_le : (marks : List Mark) (rank : ℕ)
     → ((other : ℕ) → other < front_of marks → is_decided (mark_at marks other) ≡ true)
     → is_decided (mark_at marks rank) ≡ false → front_of marks ≤ rank
 front_le marks rank decided undecided =
     front_le_by marks rank (nat_lt rank (front_of marks)) refl decided undecided
 
 -- what is given of the marks of a book, with its snapshot
-taken_at : (case : CaseView) (entries : List Entry) (marks : List Mark) (taken : Taken)
+pub taken_at : (case : CaseView) (entries : List Entry) (marks : List Mark) (taken : Taken)
     → marks ≡ marks_after case entries → AreKeptBeforeFront marks
     → front_of marks ≤ taken.rank → taken.rank < ranks_of case → taken.seen ≡ number_kept marks
     → IsTableFor case (take taken.seen (kept_of marks)) taken.snapshot
@@ -79,6 +79,7 @@ given_take before after rank (T.Seen taken) same case ahead decided inside reply
     let of_case = subst (λ (of : CaseView). (rank < ranks_of of)
     × IsTableFor of (take taken.seen (kept_of before.marks)) taken.snapshot) case (inside, given.1) in (
       given.0,
+      seen.1 ∙ ap number_kept same,
       taken_at after.case after.entries before.marks taken same ahead
           (omega (arith, late, given.0)) (omega (arith, of_case.0, given.0)) seen.1 of_case.1,
     )
@@ -97,6 +98,22 @@ given_front before after (F.Front taken) same case ahead within count reply give
     let inside : taken.rank < ranks_of before.case = search (arith, some, within, count, seen.1) in
     let of_case = subst (λ (of : CaseView). (taken.rank < ranks_of of)
     × IsTableFor of (take taken.seen (kept_of before.marks)) taken.snapshot) case (inside, given) in
-    let rank_is = seen.1 in
-    taken_at after.case after.entries before.marks taken same ahead
-    (omega (arith, rank_is)) of_case.0 seen.2 of_case.1
+    let rank_is = seen.1 in (
+      rank_is ∙ ap front_of same,
+      seen.2 ∙ ap number_kept same,
+      taken_at after.case after.entries before.marks taken same ahead
+          (omega (arith, rank_is)) of_case.0 seen.2 of_case.1,
+    )
+
+-- what a book says of the ranks that it kept after a beginning of its entries
+pub keeps_first : (book : BookView) → book.marks ≡ marks_after book.case book.entries
+    → ((earlier more : List Entry) (seen : ℕ) → book.entries ≡ earlier ++ more
+        → seen ≤ number_kept (marks_after book.case earlier)
+        → (seen ≤ number_kept book.marks)
+        × (take seen (kept_of book.marks) ≡ take seen (kept_of (marks_after book.case earlier))))
+    → KeepsFirstOf book.case book.entries
+keeps_first book core law earlier begins seen few =
+    let is = law earlier begins.0 seen (sym begins.1) few in (
+      subst (λ (m : List Mark). seen ≤ number_kept m) core is.0,
+      ap (λ (m : List Mark). take seen (kept_of m)) (sym core) ∙ is.1,
+    )

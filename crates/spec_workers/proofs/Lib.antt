@@ -3,3 +3,4 @@ pub mod GivenTakes
 pub mod TurnSteps
 pub mod StageLemmas
 pub mod EndLemmas
+pub mod AheadLemmas

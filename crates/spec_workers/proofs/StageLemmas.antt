@@ -7,7 +7,7 @@ use Rattle.accuse_core.specs.declared.event.Event.TheVariants.{No, Yes}
 use Rattle.accuse_core.specs.declared.journal.Entry.{Entry}
 use Rattle.spec_workers.specs.Books.{Tells}
 use Rattle.spec_workers.specs.Turns.{IsVerdictOn, IsTested, IsTake, AreTaken, IsFrontTaken, AreFrontsTaken, is_verdict, verdicts_in}
-use Rattle.spec_workers.specs.Inside.Steps.{IsTakeStep}
+use Rattle.spec_workers.specs.Inside.Steps.{IsTakeStep, IsTurn, IsFrontTurn}
 use Rattle.spec_workers.specs.Inside.Stages.{IsTaking, HasTaken, HasFronts}
 use Rattle.spec_workers.proofs.Holds.{tells_nothing, tells_then}
 
@@ -94,21 +94,21 @@ pub more_taken : (worker later budget rank made next : ℕ) (tested : Bool) (dra
     (first before after : List Entry) → later ≡ worker → next ≡ made + cond {A = ℕ} tested 1 0 → next ≤ budget
     → HasTaken worker budget drawn_first drawn_before first before made
     → drawn_after ≡ drawn_before ++ rank ∷ []
-    → (told : List Entry) × Tells later before after told × IsTakeStep later rank tested told
+    → IsTurn later rank before after tested
     → HasTaken worker budget drawn_first drawn_after first after next
 more_taken worker later budget rank made next tested drawn_first drawn_before drawn_after first before after same count few so_far drew step =
-    let here = subst (λ (n : ℕ). (told : List Entry) × Tells n before after told × IsTakeStep n rank tested told) same step in
-    let take = step_is_take worker rank tested here.0 here.2 in
+    let here = subst (λ (n : ℕ). IsTurn n rank before after tested) same step in
+    let take = step_is_take worker rank tested here.told here.step in
     let tests = so_far.taking.tests in
     let one = take.1 in
-    let both = verdicts_of_both so_far.told here.0 in
+    let both = verdicts_of_both so_far.told here.told in
     record {
       draws = so_far.draws ++ rank ∷ [];
-      told = so_far.told ++ here.0;
+      told = so_far.told ++ here.told;
       drawn = drew ∙ (ap (λ (l : List ℕ). l ++ rank ∷ []) so_far.drawn ∙ append_assoc drawn_first so_far.draws (rank ∷ []));
-      tells = tells_then worker first before after so_far.told here.0 so_far.tells here.1;
+      tells = tells_then worker first before after so_far.told here.told so_far.tells here.tells;
       taking = record {
-        taken = taken_more worker rank so_far.draws so_far.told here.0 so_far.taking.taken take.0;
+        taken = taken_more worker rank so_far.draws so_far.told here.told so_far.taking.taken take.0;
         tests = omega (arith, count, tests, one, both);
         within = few;
       };
@@ -117,14 +117,14 @@ more_taken worker later budget rank made next tested drawn_first drawn_before dr
 -- the rank at the front is taken once more
 pub more_fronts : (worker later count next : ℕ) (first before after : List Entry) → later ≡ worker → next ≡ count + 1
     → HasFronts worker count first before
-    → (told : List Entry) × Tells later before after told × IsFrontTaken later told
+    → IsFrontTurn later before after true
     → HasFronts worker next first after
 more_fronts worker later count next first before after same one so_far step =
-    let here = subst (λ (n : ℕ). (told : List Entry) × Tells n before after told × IsFrontTaken n told) same step in
+    let here = subst (λ (n : ℕ). IsFrontTurn n before after true) same step in
     let is : suc count ≡ next = omega (arith, one) in
     record {
-      told = so_far.told ++ here.0;
-      tells = tells_then worker first before after so_far.told here.0 so_far.tells here.1;
-      taken = subst (λ (n : ℕ). AreFrontsTaken worker n (so_far.told ++ here.0)) is
-          (fronts_more worker count so_far.told here.0 so_far.taken here.2);
+      told = so_far.told ++ here.told;
+      tells = tells_then worker first before after so_far.told here.told so_far.tells here.tells;
+      taken = subst (λ (n : ℕ). AreFrontsTaken worker n (so_far.told ++ here.told)) is
+          (fronts_more worker count so_far.told here.told so_far.taken here.step);
     }

@@ -1,4 +1,5 @@
 -- What only the code of this crate and its proofs cite.
+pub mod Ahead
 pub mod Asked
 pub mod Grown
 pub mod Stages

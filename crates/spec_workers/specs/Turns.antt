@@ -63,14 +63,14 @@ IsWholeWork n worker draws told = AreTaken worker draws told ⊎ IsAtFront n wor
 
 -- what a worker may have begun when memory runs out: nothing, a rank drawn that it has not taken, a
 -- rank taken without its verdict, or the rank at the front without its verdict
-abbrev pub IsBegun : ℕ → List ℕ → List Entry → Type 0
-IsBegun worker [] [] = ⊤
-IsBegun worker [] (asked ∷ []) =
+abbrev pub IsCutTurn : ℕ → List ℕ → List Entry → Type 0
+IsCutTurn worker [] [] = ⊤
+IsCutTurn worker [] (asked ∷ []) =
     (rank seen : ℕ) × (asked ≡ entry (TakeFront worker) (Front rank seen))
-IsBegun worker (rank ∷ []) [] = ⊤
-IsBegun worker (rank ∷ []) (asked ∷ []) =
+IsCutTurn worker (rank ∷ []) [] = ⊤
+IsCutTurn worker (rank ∷ []) (asked ∷ []) =
     (seen : ℕ) × (asked ≡ entry (Take worker rank) (Seen seen))
-IsBegun worker _ _ = ⊥
+IsCutTurn worker _ _ = ⊥
 
 -- whole work, and then something that was begun
 pub record IsCutWork (n worker : ℕ) (draws : List ℕ) (entries : List Entry) : Type 0 where
@@ -81,7 +81,7 @@ pub record IsCutWork (n worker : ℕ) (draws : List ℕ) (entries : List Entry) 
   pub begun : List Entry
   pub told : entries ≡ whole ++ begun
   pub is_whole : IsWholeWork n worker before whole
-  pub is_begun : IsBegun worker last begun
+  pub is_begun : IsCutTurn worker last begun
 
 abbrev pub is_verdict : Event → Bool
 is_verdict (Take worker rank) = false

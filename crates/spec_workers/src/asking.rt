@@ -1,6 +1,6 @@
 //! A worker asks for a rank to test, in one hold of the lock.
 
-ghost use Rattle.std.specs.Prelude.{◌≡◌, ◌<◌, ◌∷◌, [], IfOk, OnErr};
+ghost use Rattle.std.specs.Prelude.{◌≡◌, ◌<◌, ◌∷◌, [], IfOk, OnOk, OnErr};
 ghost use Rattle.accuse_core.specs.declared.event.Event.TheVariants as E;
 ghost use Rattle.commit_book.specs.Books.{ranks_of, worker_of};
 ghost use Rattle.commit_book.specs.Answers.{take_reply, front_reply};
@@ -8,12 +8,12 @@ ghost use Rattle.commit_lock.specs.Entries.{GrowsBy};
 ghost use Rattle.commit_lock.specs.Seats.{IsSeatOf, IsIdle, KeepsPlace, number, seen};
 ghost use Rattle.spec_workers.specs.Books.{lock_case, ranks_at, Tells};
 ghost use Rattle.spec_workers.specs.Turns.{entry};
-ghost use Rattle.spec_workers.specs.Inside.Asked.{GivesTake, GivesFrontTake};
+ghost use Rattle.spec_workers.specs.Inside.Asked.{GivesTake, GivesFrontTake, KeepsFirstOf};
 ghost use Rattle.spec_workers.specs.Inside.Grown.{IsGrown};
 
 use crate::locking::{enter, leave, number};
 use accuse_core::{asking_leaves_the_marks, front_is_the_least_undecided_rank};
-use commit_book::{Book, FrontAnswer, TakeAnswer, books_are_sound};
+use commit_book::{Book, FrontAnswer, TakeAnswer, books_are_sound, kept_ranks_stay_first};
 use commit_lock::{CommitLock, Seat};
 use std::alloc::{AllocError, Global};
 use std::sync::Wait;
@@ -26,6 +26,7 @@ fn take(alloc: Global, book: &mut Book, worker: u32, rank: u32) -> Result<TakeAn
     ensures told { IfOk result (λ answer. IsGrown worker book.old book.new
         (entry (E.Take worker rank) (take_reply answer) ∷ [])) }
     ensures given { IfOk result (GivesTake book.new.case book.new.entries rank) }
+    ensures first { OnOk result (KeepsFirstOf book.new.case book.new.entries) }
     ensures refused { OnErr result (IsGrown worker book.old book.new []) }
 {
     book.reserve_turn(alloc)?;
@@ -34,6 +35,7 @@ fn take(alloc: Global, book: &mut Book, worker: u32, rank: u32) -> Result<TakeAn
     front_is_the_least_undecided_rank();
     let _ = book.journal();
     let answer = book.take(worker, rank);
+    kept_ranks_stay_first(book);
     let _ = book.journal();
     Ok(answer)
 }
@@ -74,6 +76,7 @@ pub fn ask<R: Wait>(
     ensures told { IfOk result (λ answer. Tells (number seat.old) (seen seat.old) (seen seat.new)
         (entry (E.Take (number seat.old) rank) (take_reply answer) ∷ [])) }
     ensures given { IfOk result (GivesTake (lock_case lock.now) (seen seat.new) rank) }
+    ensures first { OnOk result (KeepsFirstOf (lock_case lock.now) (seen seat.new)) }
     ensures refused { OnErr result (Tells (number seat.old) (seen seat.old) (seen seat.new) []) }
 {
     let worker = number(seat);

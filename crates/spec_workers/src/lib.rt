@@ -1,6 +1,7 @@
 //! Workers that decide the ranks of a case side by side, over one book under a lock.
 #![tactic(auto)]
 
+mod ahead;
 mod asking;
 mod locking;
 mod telling;

@@ -1,9 +1,12 @@
 -- What a worker was given to test, at its place of the journal.
-use Rattle.std.specs.Prelude.{◌≡◌, ℕ, ◌≤◌, ◌<◌, List, ◌++◌, ◌∷◌, [], All, take, ⊤}
+use Rattle.std.specs.Prelude.{◌≡◌, ℕ, ◌≤◌, ◌<◌, IfSome, Option, List, ◌++◌, ◌∷◌, [], All, take, ⊤}
 use Rattle.case_file.specs.Cases.{CaseView}
+use Rattle.commit_lock.specs.Entries.{IsBeginning}
+use Rattle.saturate.specs.declared.types.Verdict.{Verdict}
+use Rattle.saturate.specs.Decisions.{IsVerdict}
 use Rattle.accuse_core.specs.declared.mark.Mark.{Mark}
 use Rattle.accuse_core.specs.declared.journal.Entry.{Entry}
-use Rattle.accuse_core.specs.Marks.{kept_of, number_kept}
+use Rattle.accuse_core.specs.Marks.{front_of, kept_of, number_kept}
 use Rattle.accuse_core.specs.Journal.{replayed}
 use Rattle.commit_book.specs.declared.answers.Taken.{Taken}
 use Rattle.commit_book.specs.declared.answers.TakeAnswer.{TakeAnswer}
@@ -25,12 +28,30 @@ pub record IsTakenAt (case : CaseView) (entries : List Entry) (taken : Taken) : 
       taken.snapshot
   pub before : All (λ old. old < taken.rank) taken.snapshot.ranks
 
--- what is answered is of this rank
+-- what is answered is of this rank, or of the one at the front, and has seen all kept ranks
 abbrev pub GivesTake : CaseView → List Entry → ℕ → TakeAnswer → Type 0
 GivesTake case entries rank T.Over = ⊤
-GivesTake case entries rank (T.Seen taken) =
-    (taken.rank ≡ rank) × IsTakenAt case entries taken
+GivesTake case entries rank (T.Seen taken) = (taken.rank ≡ rank)
+    × (taken.seen ≡ number_kept (marks_after case entries)) × IsTakenAt case entries taken
 
 abbrev pub GivesFrontTake : CaseView → List Entry → FrontAnswer → Type 0
 GivesFrontTake case entries F.Done = ⊤
-GivesFrontTake case entries (F.Front taken) = IsTakenAt case entries taken
+GivesFrontTake case entries (F.Front taken) =
+    (taken.rank ≡ front_of (marks_after case entries))
+    × (taken.seen ≡ number_kept (marks_after case entries)) × IsTakenAt case entries taken
+
+-- of what was kept after the first entries, the first ranks are still the first after all
+abbrev pub KeepsFirst : CaseView → List Entry → List Entry → Type 0
+KeepsFirst case before after = (seen : ℕ) → seen ≤ number_kept (marks_after case before)
+    → (seen ≤ number_kept (marks_after case after))
+    × (take seen (kept_of (marks_after case after)) ≡ take seen (kept_of (marks_after case before)))
+
+-- after whatever beginning of these entries
+abbrev pub KeepsFirstOf : CaseView → List Entry → Type 0
+KeepsFirstOf case entries =
+    (earlier : List Entry) → IsBeginning earlier entries → KeepsFirst case earlier entries
+
+-- what may be tested of a rank before it is taken is of this rank
+abbrev pub GivesAhead : CaseView → List Entry → ℕ → Option Taken → Type 0
+GivesAhead case entries rank found =
+    IfSome found (λ taken. (taken.rank ≡ rank) × IsTakenAt case entries taken)

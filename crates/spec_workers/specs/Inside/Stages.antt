@@ -6,7 +6,7 @@ use Rattle.accuse_core.specs.declared.journal.Entry.{Entry}
 use Rattle.spec_workers.specs.declared.types.WorkEnd.{WorkEnd}
 use Rattle.spec_workers.specs.declared.types.WorkEnd.TheVariants.{Done, Budget, OutOfMemory}
 use Rattle.spec_workers.specs.Books.{Tells}
-use Rattle.spec_workers.specs.Turns.{entry, AreTaken, AreFrontsTaken, IsBegun, verdicts_in}
+use Rattle.spec_workers.specs.Turns.{entry, AreTaken, AreFrontsTaken, IsCutTurn, verdicts_in}
 
 -- the worker drew these ranks and took each, with this number of tests
 pub record IsTaking (worker budget : ℕ) (draws : List ℕ) (told : List Entry) (made : ℕ)
@@ -41,7 +41,7 @@ pub record IsCutFront (worker most : ℕ) (entries : List Entry) : Type 0 where
   pub told : entries ≡ fronts ++ begun
   pub taken : AreFrontsTaken worker count fronts
   pub few : count ≤ most
-  pub is_begun : IsBegun worker [] begun
+  pub is_begun : IsCutTurn worker [] begun
 
 -- and then the worker was told that all is decided
 pub record IsDoneFront (worker most : ℕ) (entries : List Entry) : Type 0 where

@@ -29,3 +29,6 @@ returns-clause-told g c =
     (subst (λ w. IsGrown w c.enter-book.result book (entry (E.Take w rank) (take_reply answer) ∷ [])) c.number-worker.ensures grown)
     c.leave.ensures.seen)
     c.take-answer.ensures.told
+
+pub returns-clause-first : goal.returns-clause-first
+returns-clause-first g c = ?

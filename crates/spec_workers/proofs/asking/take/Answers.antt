@@ -1,7 +1,7 @@
 use Rattle.std.proofs.Common.{◌≡◌, ◌∙◌, sym, ap, subst}
 use Rattle.std.proofs.Common.{arith, ◌<◌}
 use Rattle.commit_book.specs.Books.{BookView, ranks_of}
-use Rattle.spec_workers.proofs.GivenTakes.{given_take}
+use Rattle.spec_workers.proofs.GivenTakes.{given_take, keeps_first}
 use Rattle.spec_workers.proofs.asking.take.Goals as goal
 
 pub returns-clause-given : goal.returns-clause-given
@@ -16,3 +16,7 @@ returns-clause-given c =
     given_take ready after c.args.rank c.take-answer.result same (sym told.case)
     c.books_are_sound.ensures.kept_before_front c.books_are_sound.ensures.decided_before_front
     inside c.take-answer.ensures.reply c.take-answer.ensures.given
+
+pub returns-clause-first : goal.returns-clause-first
+returns-clause-first c =
+    keeps_first c.take-answer.new.self c.journal-2.ensures.book.core c.kept_ranks_stay_first.ensures

@@ -2,7 +2,7 @@ use Rattle.std.proofs.Common.{◌≡◌, ◌∙◌, refl, true, ℕ, ◌+◌, su
 use Rattle.accuse_core.specs.declared.journal.Entry.{Entry}
 use Rattle.commit_lock.specs.Seats.{number, seen}
 use Rattle.spec_workers.specs.Books.{Tells}
-use Rattle.spec_workers.specs.Inside.Steps.{IsFrontStep}
+use Rattle.spec_workers.specs.Inside.Steps.{IsFrontTurn}
 use Rattle.spec_workers.specs.Inside.Stages.{HasFronts}
 use Rattle.spec_workers.proofs.StageLemmas.{more_fronts}
 use Rattle.spec_workers.proofs.working.take_fronts.Goals as goal
@@ -13,8 +13,7 @@ loop-preserved g c =
     let after = c.front_turn.new.seat in
     let was = c.loop.invariant.same in
     let same = c.front_turn.ensures.same in
-    let step = subst (λ (b : Bool). (told : List Entry) × Tells (number before) (seen before) (seen after) told × IsFrontStep (number before) b told)
-    c.in-Ok-true.field-0-test c.in-Ok-true.ensures.ok in
+    let step = subst (λ (b : Bool). IsFrontTurn (number before) (seen before) (seen after) b) c.in-Ok-true.field-0-test c.in-Ok-true.ensures.ok in
     record {
       lock = c.front_turn.ensures.lock;
       idle = c.front_turn.ensures.idle;

@@ -7,7 +7,7 @@ use Rattle.spec_workers.specs.Books.{lock_case, Tells}
 use Rattle.spec_workers.specs.Turns.{entry}
 use Rattle.spec_workers.specs.Inside.Asked.{GivesTake}
 use Rattle.spec_workers.proofs.TurnSteps.{take_tested}
-use Rattle.spec_workers.proofs.turns.take_turn.Goals as goal
+use Rattle.spec_workers.proofs.turns.plain_turn.Goals as goal
 
 pub returns-in_ok-test_and_tell-in-Seen-clause-ok : goal.returns-in_ok-test_and_tell-in-Seen-clause-ok
 returns-in_ok-test_and_tell-in-Seen-clause-ok g c =
