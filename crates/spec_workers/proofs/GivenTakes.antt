@@ -108,9 +108,9 @@ given_front before after (F.Front taken) same case ahead within count reply give
 -- what a book says of the ranks that it kept after a beginning of its entries
 pub keeps_first : (book : BookView) → book.marks ≡ marks_after book.case book.entries
     → ((earlier more : List Entry) (seen : ℕ) → book.entries ≡ earlier ++ more
-        → seen ≤ number_kept (marks_after book.case earlier)
-        → (seen ≤ number_kept book.marks)
-        × (take seen (kept_of book.marks) ≡ take seen (kept_of (marks_after book.case earlier))))
+    → seen ≤ number_kept (marks_after book.case earlier)
+    → (seen ≤ number_kept book.marks)
+    × (take seen (kept_of book.marks) ≡ take seen (kept_of (marks_after book.case earlier))))
     → KeepsFirstOf book.case book.entries
 keeps_first book core law earlier begins seen few =
     let is = law earlier begins.0 seen (sym begins.1) few in (

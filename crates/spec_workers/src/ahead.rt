@@ -14,10 +14,10 @@ ghost use Rattle.spec_workers.specs.Inside.Ahead.{IsFoundAhead};
 use crate::locking::{enter, leave, number};
 use crate::telling::{tell, test_and_tell};
 use accuse_core::Mark;
-use commit_book::{Book, Taken, books_are_sound};
-use derivation::good_derivations_stay_good_for_more_ranks;
 use case_file::more_rows_stay_incoherent;
+use commit_book::{Book, Taken, books_are_sound};
 use commit_lock::{CommitLock, Seat};
+use derivation::good_derivations_stay_good_for_more_ranks;
 use io_edge::Gate;
 use saturate::{Verdict, test};
 use std::alloc::{AllocError, Global};
@@ -86,12 +86,7 @@ pub fn look<R: Wait>(
 }
 
 // Whether a rank is at the front, or before it.
-fn has_come<R: Wait>(
-    rt: &R,
-    lock: &CommitLock<Book>,
-    seat: &mut Seat<Book>,
-    rank: u32,
-) -> bool
+fn has_come<R: Wait>(rt: &R, lock: &CommitLock<Book>, seat: &mut Seat<Book>, rank: u32) -> bool
     requires lock { IsSeatOf lock.now seat.old }
     requires idle { IsIdle seat.old }
     ensures lock { IsSeatOf lock.now seat.new }
@@ -114,12 +109,7 @@ fn pause(times: u32) {
 
 /// Waits until a rank is at the front, or before it, but not for ever: it gives the processor up
 /// and looks again, more and more seldom. It tells nothing.
-pub fn wait_for_front<R: Wait>(
-    rt: &R,
-    lock: &CommitLock<Book>,
-    seat: &mut Seat<Book>,
-    rank: u32,
-)
+pub fn wait_for_front<R: Wait>(rt: &R, lock: &CommitLock<Book>, seat: &mut Seat<Book>, rank: u32)
     requires lock { IsSeatOf lock.now seat.old }
     requires idle { IsIdle seat.old }
     ensures lock { IsSeatOf lock.now seat.new }

@@ -21,6 +21,7 @@ use std::sync::Wait;
 // Takes a rank in a book.
 fn take(alloc: Global, book: &mut Book, worker: u32, rank: u32) -> Result<TakeAnswer, AllocError>
     requires inside { rank < ranks_of book.old.case }
+    ensures case { book.new.case ≡ book.old.case }
     ensures grown { GrowsBy (λ entry. worker_of entry.event) worker book.old.entries
         book.new.entries }
     ensures told { IfOk result (λ answer. IsGrown worker book.old book.new

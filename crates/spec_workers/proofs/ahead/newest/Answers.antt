@@ -19,7 +19,9 @@ returns c =
     let core = c.core-core.ensures in
     let mark = c.mark.ensures ∙ ap (λ (marks : List Mark). mark_at marks c.args.rank) core in
     let undecided = subst (λ (m : Mark). (m ≡ Open) ⊎ ((yes : ℕ) × (m ≡ Yes yes))) mark c.in-Open.is in
-    let seen = ap length c.kept.ensures ∙ ap (λ (marks : List Mark). length (kept_of marks)) core in
-    (refl, newest_given c.args.book.now c.args.rank (length c.kept.result.now) c.in_ok-snapshot.snapshot c.journal.ensures.book
-        c.books_are_sound.ensures.kept_before_front c.books_are_sound.ensures.decided_before_front c.requires.inside undecided
-        seen (c.in_ok-snapshot.ensures ∙ c.table.ensures))
+    let seen = ap length c.kept.ensures ∙ ap (λ (marks : List Mark). length (kept_of marks)) core in (
+      refl,
+      newest_given c.args.book.now c.args.rank (length c.kept.result.now) c.in_ok-snapshot.snapshot c.journal.ensures.book
+          c.books_are_sound.ensures.kept_before_front c.books_are_sound.ensures.decided_before_front c.requires.inside undecided
+          seen (c.in_ok-snapshot.ensures ∙ c.table.ensures),
+    )

@@ -4,8 +4,11 @@ use Rattle.accuse_core.specs.declared.event.Event.TheVariants as E
 use Rattle.commit_lock.specs.Seats.{number, seen, entered}
 use Rattle.commit_book.specs.declared.answers.TakeAnswer.{TakeAnswer}
 use Rattle.commit_book.specs.Answers.{take_reply}
-use Rattle.spec_workers.specs.Books.{Tells}
+use Rattle.spec_workers.specs.Books.{lock_case, Tells}
 use Rattle.spec_workers.specs.Turns.{entry}
+use Rattle.case_file.specs.Cases.{CaseView}
+use Rattle.accuse_core.specs.declared.journal.Entry.{Entry}
+use Rattle.spec_workers.specs.Inside.Asked.{KeepsFirstOf}
 use Rattle.spec_workers.specs.Inside.Grown.{IsGrown}
 use Rattle.spec_workers.proofs.Holds.{grown_at, held}
 use Rattle.spec_workers.proofs.asking.ask.Goals as goal
@@ -31,4 +34,10 @@ returns-clause-told g c =
     c.take-answer.ensures.told
 
 pub returns-clause-first : goal.returns-clause-first
-returns-clause-first g c = ?
+returns-clause-first g c =
+    let book = c.take-answer.new.book in
+    IfOk-weaker c.take-answer.result (λ _. KeepsFirstOf book.case book.entries)
+    (λ _. KeepsFirstOf (lock_case c.args.lock.now) (seen c.leave.new.seat))
+    (λ _ keeps. subst (λ (l : List Entry). KeepsFirstOf (lock_case c.args.lock.now) l) (sym c.leave.ensures.seen)
+    (subst (λ (of : CaseView). KeepsFirstOf of book.entries) (c.take-answer.ensures.case ∙ c.enter-book.ensures.case) keeps))
+    c.take-answer.ensures.first
