@@ -1,4 +1,3 @@
 -- What only the code of this crate and its proofs cite.
-pub mod Named
-pub mod Stops
 pub mod Choices
+pub mod Stops

@@ -1,4 +1,5 @@
-pub mod Words
 pub mod Outcomes
 pub mod Run
+pub mod Made
+pub mod Commands
 pub mod Inside

@@ -1,5 +1,5 @@
--- What LEFT, RIGHT and MAP say, what is kept of MAP, and the evidence of it.
-use Rattle.std.specs.Prelude.{◌≡◌, ℕ, ◌+◌, Bool, List, ◌++◌, length, slice_get, codes, count_by, Option, Some, None}
+-- What two documents and a table say, which rows are kept, and the evidence of it.
+use Rattle.std.specs.Prelude.{◌≡◌, ◌⊎◌, ℕ, ◌+◌, Bool, List, ◌++◌, length, slice_get, codes, count_by, Option, Some, None}
 use Rattle.std.specs.Arc.{arc_value}
 use Rattle.text_names.specs.declared.limits.Limits.{Limits}
 use Rattle.io_edge.specs.Outside.{FolderSeen}
@@ -8,7 +8,6 @@ use Rattle.el_logic.specs.declared.types.Expr.TheVariants.{Top, Name}
 use Rattle.el_logic.specs.declared.types.Part.{Part}
 use Rattle.el_logic.specs.Incoherent.{IsIncoherent, IsCoherent, IsFirstIncoherent}
 use Rattle.conflict_logic.specs.Repair.{IsRepair}
-use Rattle.ofn_axiom.specs.declared.types.Mode.TheVariants.{Strict}
 use Rattle.case_file.specs.Cases.{CaseView}
 use Rattle.case_file.specs.Incoherence.{axioms_for}
 use Rattle.case_load.specs.Loads.{Inputs, inputs}
@@ -20,15 +19,16 @@ use Rattle.status_lines.specs.Lines.{summary_text}
 use Rattle.evidence_text.specs.declared.types.Evidence.{Evidence}
 use Rattle.evidence_text.specs.EvidenceText.{HasText, IsEvidenceValue, evidence_text}
 use Rattle.valid_evidence.specs.Valid.{IsValidEvidence, IsValidRefusal}
-use Rattle.repair_run.specs.Words.{FileNames}
+use Rattle.command_words.specs.declared.types.FileNames.{FileNames}
+use Rattle.repair_run.specs.declared.request.Request.{Request}
 
 abbrev pub inputs_named : FileNames → Inputs
 inputs_named names = inputs names.left names.right names.map
 
--- the files with these names are read: two documents, a table, and the case that they make
-abbrev pub AreLoaded : FolderSeen → FileNames → Limits → Loaded → Type 0
-AreLoaded folder names limits loaded =
-    IsLoadedFrom folder (inputs_named names) Strict limits loaded
+-- the files with the names asked for are read: two documents, a table, and the case that they make
+abbrev pub AreLoaded : FolderSeen → Request → Limits → Loaded → Type 0
+AreLoaded folder asked limits loaded =
+    IsLoadedFrom folder (inputs_named asked.names) asked.mode limits loaded
 
 abbrev pub case_in : Loaded → CaseView
 case_in loaded = arc_value loaded.case
@@ -43,11 +43,10 @@ abbrev pub AreIncoherentWith : CaseView → List ℕ → Type 0
 AreIncoherentWith case ranks =
     IsIncoherent case.classes case.properties (axioms_for case Part.Both ranks)
 
--- what is read of the files, and which ranks are kept: of all ranks exactly those that are not
--- accused
-pub record Outcome (folder : FolderSeen) (names : FileNames) (limits : Limits) : Type 0 where
+-- what is read, and which ranks are kept: of all ranks exactly those that are not accused
+pub record Outcome (IsRead : Loaded → Type 0) : Type 0 where
   pub loaded : Loaded
-  pub read : AreLoaded folder names limits loaded
+  pub read : IsRead loaded
   pub coherent : AreCoherentTogether loaded
   pub kept : List ℕ
   pub repair : IsRepair (AreIncoherentWith (case_in loaded)) (length (case_in loaded).order) kept
@@ -71,12 +70,10 @@ summary_line loaded kept =
     summary_text (length loaded.table.rows) (kept_count (keep_in loaded kept)) loaded.inert
     (omitted_count loaded)
 
-abbrev pub out_text : {folder : FolderSeen} {names : FileNames} {limits : Limits}
-    → Outcome folder names limits → List ℕ
+abbrev pub out_text : {IsRead : Loaded → Type 0} → Outcome IsRead → List ℕ
 out_text o = out_text_of o.loaded o.kept
 
-abbrev pub summary_of : {folder : FolderSeen} {names : FileNames} {limits : Limits}
-    → Outcome folder names limits → List ℕ
+abbrev pub summary_of : {IsRead : Loaded → Type 0} → Outcome IsRead → List ℕ
 summary_of o = summary_line o.loaded o.kept
 
 -- the bytes are the text of valid evidence: of OUT with what is kept, or of a part that is incoherent
@@ -94,20 +91,24 @@ iri_of_class names Top = Some (codes "http://www.w3.org/2002/07/owl#Thing")
 iri_of_class names (Name number) = slice_get names number
 iri_of_class names _ = None
 
--- the files are read; this is the first part of the documents that leaves a class empty, in the
--- order LEFT, RIGHT, both, and the IRI is that of the first such class
-pub record IsIncoherentCase (folder : FolderSeen) (names : FileNames) (limits : Limits)
-    (part : Part) (iri : List ℕ) : Type 0 where
+-- what is read has this first part of the documents that leaves a class empty, in the order LEFT,
+-- RIGHT, both, and the IRI is that of the first such class
+pub record IsIncoherentCase (IsRead : Loaded → Type 0) (part : Part) (iri : List ℕ)
+    : Type 0 where
   pub loaded : Loaded
-  pub read : AreLoaded folder names limits loaded
+  pub read : IsRead loaded
   pub class : Expr
   pub first : let case = case_in loaded in
       IsFirstIncoherent case.classes case.properties case.left case.right part class
   pub named : iri_of_class loaded.names.classes.names class ≡ Some iri
 
--- the files are read, and the documents leave no class empty
-pub record IsRepairable (folder : FolderSeen) (names : FileNames) (limits : Limits)
-    : Type 0 where
+-- the documents that are read leave no class empty
+pub record IsRepairable (IsRead : Loaded → Type 0) : Type 0 where
   pub loaded : Loaded
-  pub read : AreLoaded folder names limits loaded
+  pub read : IsRead loaded
   pub coherent : AreCoherentTogether loaded
+
+-- they leave no class empty, or this part leaves this one empty
+abbrev pub IsDecided : (Loaded → Type 0) → Type 0
+IsDecided IsRead = IsRepairable IsRead
+    ⊎ ((part : Part) × (class : List ℕ) × IsIncoherentCase IsRead part class)

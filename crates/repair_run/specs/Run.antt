@@ -1,4 +1,4 @@
--- What a run answers, and how the files and the output stand after it.
+-- What a run over files answers, and how the files and the output stand after it.
 use Rattle.std.specs.Prelude.{◌≡◌, ◌≢◌, ◌⊎◌, ℕ, List, Some, IfSome, ⊤}
 use Rattle.text_names.specs.declared.limits.Limits.{Limits}
 use Rattle.text_names.specs.declared.place.Place.{Place}
@@ -8,24 +8,37 @@ use Rattle.io_edge.specs.declared.outside.Target.TheVariants as Target
 use Rattle.el_logic.specs.declared.types.Part.{Part}
 use Rattle.el_logic.specs.declared.types.Side.{Side}
 use Rattle.ofn_heads.specs.declared.outside.HeadId.{HeadId}
-use Rattle.ofn_axiom.specs.declared.types.Mode.TheVariants.{Strict}
+use Rattle.ofn_axiom.specs.declared.types.Mode.TheVariants.{ElPart}
 use Rattle.ofn_axiom.specs.declared.fault.DocKind.{DocKind}
 use Rattle.sssom_rows.specs.declared.fault.TableFault.{TableFault}
 use Rattle.case_load.specs.Folders.{IsFirstFileFault}
 use Rattle.case_load.specs.declared.fault.LimitKind.{LimitKind}
 use Rattle.case_load.specs.declared.fault.LoadFault.{LoadFault}
 use Rattle.case_load.specs.declared.fault.LoadFault.TheVariants as load
+use Rattle.case_load.specs.declared.texts.Loaded.{Loaded}
 use Rattle.status_lines.specs.declared.status.Status.{Status}
 use Rattle.status_lines.specs.Lines.{refusal_line}
 use Rattle.status_lines.specs.Runs.{Run, IfTold, HasGot, IsLinePut, IsUntouched}
-use Rattle.repair_run.specs.Words.{FileNames, name_of}
-use Rattle.repair_run.specs.Outcomes.{Outcome, inputs_named, out_text, summary_of, IsEvidence, IsRefusalEvidence, IsIncoherentCase, IsRepairable}
+use Rattle.command_words.specs.declared.types.FileNames.{FileNames}
+use Rattle.repair_run.specs.declared.request.Request.{Request}
+use Rattle.repair_run.specs.Outcomes.{Outcome, inputs_named, out_text, summary_of, AreLoaded, IsDecided, IsEvidence, IsRefusalEvidence, IsIncoherentCase, IsRepairable}
+
+abbrev pub name_of : FileNames → Role → List ℕ
+name_of names Role.Left = names.left
+name_of names Role.Right = names.right
+name_of names Role.Map = names.map
+name_of names Role.Out = names.out
+name_of names Role.Evidence = names.evidence
 
 -- the first fault of the files: a read that failed or a file that is too long, LEFT before RIGHT
 -- before MAP; then LEFT's, RIGHT's and MAP's text, too many nodes, too many roles
-abbrev pub IsRunFault : Run → FileNames → Limits → LoadFault → Type 0
-IsRunFault run names limits fault =
-    IsFirstFileFault run.folder run.folder_after (inputs_named names) Strict limits fault
+abbrev pub IsRunFault : Run → Request → Limits → LoadFault → Type 0
+IsRunFault run asked limits fault =
+    IsFirstFileFault run.folder run.folder_after (inputs_named asked.names) asked.mode limits fault
+
+-- what the files are read as
+abbrev pub IsReadIn : Run → Request → Limits → Loaded → Type 0
+IsReadIn run asked limits = AreLoaded run.folder asked limits
 
 -- EVIDENCE holds these bytes, and no other file has changed
 abbrev pub HoldsEvidence : Run → Files → FileNames → List ℕ → Type 0
@@ -37,81 +50,82 @@ abbrev pub HoldsBoth : Run → Files → FileNames → List ℕ → List ℕ →
 HoldsBoth run files names evidence out =
     run.folder_after.files ≡ Some (with_file (with_file files names.evidence evidence) names.out out)
 
--- what is read of the files and kept of it, and evidence of this
-pub record Shown (folder : FolderSeen) (names : FileNames) (limits : Limits) : Type 0 where
-  pub outcome : Outcome folder names limits
+-- what is read and kept of it, and evidence of this
+pub record Shown (IsRead : Loaded → Type 0) : Type 0 where
+  pub outcome : Outcome IsRead
   pub evidence : List ℕ
   pub valid : IsEvidence outcome.loaded (out_text outcome) evidence
 
 -- EVIDENCE holds valid evidence, OUT the repaired table, and no other file has changed
-abbrev pub IsWritten : Run → FileNames → Limits → Type 0
-IsWritten run names limits = (s : Shown run.folder names limits)
-    × IfTold run (λ files. HoldsBoth run files names s.evidence (out_text s.outcome))
+abbrev pub IsWritten : Run → Request → Limits → Type 0
+IsWritten run asked limits = (s : Shown (IsReadIn run asked limits))
+    × IfTold run (λ files. HoldsBoth run files asked.names s.evidence (out_text s.outcome))
 
 -- and the output has got the summary
-abbrev pub IsDone : Run → FileNames → Limits → Type 0
-IsDone run names limits = (s : Shown run.folder names limits)
-    × IfTold run (λ files. HoldsBoth run files names s.evidence (out_text s.outcome))
+abbrev pub IsDone : Run → Request → Limits → Type 0
+IsDone run asked limits = (s : Shown (IsReadIn run asked limits))
+    × IfTold run (λ files. HoldsBoth run files asked.names s.evidence (out_text s.outcome))
     × HasGot run (summary_of s.outcome)
 
 -- EVIDENCE holds valid evidence; OUT is as before, or holds the first bytes of the repaired table
-abbrev pub IsTorn : Run → FileNames → Limits → Type 0
-IsTorn run names limits = (s : Shown run.folder names limits)
-    × IfTold run (λ files. HoldsEvidence run files names s.evidence
-    ⊎ HoldsFront (with_file files names.evidence s.evidence) run.folder_after.files names.out
-    (out_text s.outcome))
+abbrev pub IsTorn : Run → Request → Limits → Type 0
+IsTorn run asked limits = (s : Shown (IsReadIn run asked limits))
+    × IfTold run (λ files. HoldsEvidence run files asked.names s.evidence
+    ⊎ HoldsFront (with_file files asked.names.evidence s.evidence) run.folder_after.files
+    asked.names.out (out_text s.outcome))
 
 -- the bytes are evidence of what the files say: of what is kept, or of a part that is incoherent
-abbrev pub IsEitherEvidence : Run → FileNames → Limits → List ℕ → Type 0
-IsEitherEvidence run names limits bytes =
-    ((o : Outcome run.folder names limits) × IsEvidence o.loaded (out_text o) bytes)
+abbrev pub IsEitherEvidence : Run → Request → Limits → List ℕ → Type 0
+IsEitherEvidence run asked limits bytes =
+    ((o : Outcome (IsReadIn run asked limits)) × IsEvidence o.loaded (out_text o) bytes)
     ⊎ ((part : Part) × (class : List ℕ)
-    × (i : IsIncoherentCase run.folder names limits part class)
+    × (i : IsIncoherentCase (IsReadIn run asked limits) part class)
     × IsRefusalEvidence i.loaded part bytes)
 
 -- only EVIDENCE has changed, and it holds the whole of the evidence
-abbrev pub IsEvidenceWhole : Run → FileNames → Limits → Type 0
-IsEvidenceWhole run names limits =
-    (bytes : List ℕ) × IsEitherEvidence run names limits bytes
-    × IfTold run (λ files. HoldsEvidence run files names bytes)
+abbrev pub IsEvidenceWhole : Run → Request → Limits → Type 0
+IsEvidenceWhole run asked limits =
+    (bytes : List ℕ) × IsEitherEvidence run asked limits bytes
+    × IfTold run (λ files. HoldsEvidence run files asked.names bytes)
 
 -- only EVIDENCE may have changed, and if so it holds the first bytes of the evidence
-abbrev pub IsEvidenceTorn : Run → FileNames → Limits → Type 0
-IsEvidenceTorn run names limits =
-    (bytes : List ℕ) × IsEitherEvidence run names limits bytes
+abbrev pub IsEvidenceTorn : Run → Request → Limits → Type 0
+IsEvidenceTorn run asked limits =
+    (bytes : List ℕ) × IsEitherEvidence run asked limits bytes
     × IfTold run (λ files. (run.folder_after.files ≡ Some files)
-    ⊎ HoldsFront files run.folder_after.files names.evidence bytes)
+    ⊎ HoldsFront files run.folder_after.files asked.names.evidence bytes)
 
 -- EVIDENCE holds the evidence that the part is incoherent, and no other file has changed
-abbrev pub IsRefusalWhole : Run → FileNames → Limits → Part → List ℕ → Type 0
-IsRefusalWhole run names limits part class =
-    (i : IsIncoherentCase run.folder names limits part class) × (bytes : List ℕ)
+abbrev pub IsRefusalWhole : Run → Request → Limits → Part → List ℕ → Type 0
+IsRefusalWhole run asked limits part class =
+    (i : IsIncoherentCase (IsReadIn run asked limits) part class) × (bytes : List ℕ)
     × IsRefusalEvidence i.loaded part bytes
-    × IfTold run (λ files. HoldsEvidence run files names bytes)
+    × IfTold run (λ files. HoldsEvidence run files asked.names bytes)
 
 -- the output has got the first bytes of the summary
-abbrev pub IsPutShort : Run → FileNames → Limits → Type 0
-IsPutShort run names limits = (o : Outcome run.folder names limits)
+abbrev pub IsPutShort : Run → (Loaded → Type 0) → Type 0
+IsPutShort run IsRead = (o : Outcome IsRead)
     × IfSome run.output.got (λ got. HasGotFront got run.output_after.got (summary_of o))
 
 -- how the files stand if memory ran out: as before, with the evidence, with both, or as a write
 -- that failed left them
-abbrev pub FilesWithoutMemory : Run → FileNames → Limits → Type 0
-FilesWithoutMemory run names limits =
-    IsUntouched run ⊎ (IsEvidenceWhole run names limits ⊎ (IsWritten run names limits
-    ⊎ ((WritesRose run.folder run.folder_after names.evidence × IsEvidenceTorn run names limits)
-    ⊎ (WritesRose run.folder run.folder_after names.out × IsTorn run names limits))))
+abbrev pub FilesWithoutMemory : Run → Request → Limits → Type 0
+FilesWithoutMemory run asked limits =
+    IsUntouched run ⊎ (IsEvidenceWhole run asked limits ⊎ (IsWritten run asked limits
+    ⊎ ((WritesRose run.folder run.folder_after asked.names.evidence
+    × IsEvidenceTorn run asked limits)
+    ⊎ (WritesRose run.folder run.folder_after asked.names.out × IsTorn run asked limits))))
 
 -- how the files stand after an answer
-abbrev pub FilesStand : Run → FileNames → Limits → Status → Type 0
-FilesStand run names limits Status.Done = IsWritten run names limits
-FilesStand run names limits (Status.Incoherent part class) =
-    IsRefusalWhole run names limits part class
-FilesStand run names limits (Status.WriteFault Target.Evidence) = IsEvidenceTorn run names limits
-FilesStand run names limits (Status.WriteFault Target.Out) = IsTorn run names limits
-FilesStand run names limits (Status.WriteFault Target.Output) = IsWritten run names limits
-FilesStand run names limits Status.OutOfMemory = FilesWithoutMemory run names limits
-FilesStand run names limits _ = IsUntouched run
+abbrev pub FilesStand : Run → Request → Limits → Status → Type 0
+FilesStand run asked limits Status.Done = IsWritten run asked limits
+FilesStand run asked limits (Status.Incoherent part class) =
+    IsRefusalWhole run asked limits part class
+FilesStand run asked limits (Status.WriteFault Target.Evidence) = IsEvidenceTorn run asked limits
+FilesStand run asked limits (Status.WriteFault Target.Out) = IsTorn run asked limits
+FilesStand run asked limits (Status.WriteFault Target.Output) = IsWritten run asked limits
+FilesStand run asked limits Status.OutOfMemory = FilesWithoutMemory run asked limits
+FilesStand run asked limits _ = IsUntouched run
 
 -- how the output stands after an answer that is not the good one; if memory ran out, the line may
 -- have been put in part
@@ -145,67 +159,66 @@ abbrev pub IsOrEvidenceStop : Status → Status → Type 0
 IsOrEvidenceStop answer result =
     IsOrReadStop answer result ⊎ (result ≡ Status.WriteFault Target.Evidence)
 
--- the files are read; the documents leave no class empty, or this part leaves this one empty
-abbrev pub IsDecided : FolderSeen → FileNames → Limits → Type 0
-IsDecided folder names limits = IsRepairable folder names limits
-    ⊎ ((part : Part) × (class : List ℕ) × IsIncoherentCase folder names limits part class)
-
--- all that is known of a run over named files, by its answer
-pub record IsRun (run : Run) (names : FileNames) (limits : Limits) (answer : Status)
+-- all that is known of a run over files, by its answer
+pub record IsRun (run : Run) (asked : Request) (limits : Limits) (answer : Status)
     : Type 0 where
   -- OUT is the table without exactly the rows that are accused, EVIDENCE shows it, and the summary
   -- was put
-  pub done : answer ≡ Status.Done → IsDone run names limits
-  -- the arguments are names
+  pub done : answer ≡ Status.Done → IsDone run asked limits
+  -- the arguments are a command
   pub words : answer ≢ Status.Words
   -- an input could not be read, after those before it were read
   pub read_fault : (file : Role) → answer ≡ Status.ReadFault file
-      → IsRunFault run names limits (load.ReadFault file)
+      → IsRunFault run asked limits (load.ReadFault file)
   -- an ontology is no document, and this is the first fault of the files
   pub syntax : (side : Side) (place : Place) (kind : DocKind)
       → answer ≡ Status.Syntax side place kind
-      → IsRunFault run names limits (load.Syntax side place kind)
+      → IsRunFault run asked limits (load.Syntax side place kind)
   pub syntax_answer : (side : Side) (place : Place) (kind : DocKind)
-      → IfTold run (λ files. IsRunFault run names limits (load.Syntax side place kind)
+      → IfTold run (λ files. IsRunFault run asked limits (load.Syntax side place kind)
       → IsOrReadStop (Status.Syntax side place kind) answer)
   -- an ontology has something outside the profile, and this is the first fault of the files
   pub profile : (side : Side) (place : Place) (head : HeadId)
       → answer ≡ Status.Profile side place head
-      → IsRunFault run names limits (load.Profile side place head)
+      → IsRunFault run asked limits (load.Profile side place head)
   pub profile_answer : (side : Side) (place : Place) (head : HeadId)
-      → IfTold run (λ files. IsRunFault run names limits (load.Profile side place head)
+      → IfTold run (λ files. IsRunFault run asked limits (load.Profile side place head)
       → IsOrReadStop (Status.Profile side place head) answer)
+  -- with `--el-part` nothing is outside the profile
+  pub no_profile : asked.mode ≡ ElPart
+      → (side : Side) (place : Place) (head : HeadId) → answer ≢ Status.Profile side place head
   -- the table is no table, and this is the first fault of the files
   pub table : (fault : TableFault) → answer ≡ Status.Table fault
-      → IsRunFault run names limits (load.Table fault)
+      → IsRunFault run asked limits (load.Table fault)
   pub table_answer : (fault : TableFault)
-      → IfTold run (λ files. IsRunFault run names limits (load.Table fault)
+      → IfTold run (λ files. IsRunFault run asked limits (load.Table fault)
       → IsOrReadStop (Status.Table fault) answer)
   -- a file or its content is larger than a limit, and this is the first fault of the files
   pub limit : (kind : LimitKind) → answer ≡ Status.Limit kind
-      → IsRunFault run names limits (load.Limit kind)
+      → IsRunFault run asked limits (load.Limit kind)
   pub limit_answer : (kind : LimitKind)
-      → IfTold run (λ files. IsRunFault run names limits (load.Limit kind)
+      → IfTold run (λ files. IsRunFault run asked limits (load.Limit kind)
       → IsOrReadStop (Status.Limit kind) answer)
   -- the first part of the documents that leaves a class empty, and the first such class
   pub incoherent : (part : Part) (class : List ℕ) → answer ≡ Status.Incoherent part class
-      → IsIncoherentCase run.folder names limits part class
+      → IsIncoherentCase (IsReadIn run asked limits) part class
   pub incoherent_answer : (part : Part) (class : List ℕ)
-      → IfTold run (λ files. IsIncoherentCase run.folder names limits part class
+      → IfTold run (λ files. IsIncoherentCase (IsReadIn run asked limits) part class
       → IsOrEvidenceStop (Status.Incoherent part class) answer)
   -- EVIDENCE could not be written
   pub evidence_fault : answer ≡ Status.WriteFault Target.Evidence
-      → WritesRose run.folder run.folder_after names.evidence
-      × IsDecided run.folder names limits
+      → WritesRose run.folder run.folder_after asked.names.evidence
+      × IsDecided (IsReadIn run asked limits)
   -- OUT could not be written after EVIDENCE was; the documents leave no class empty
   pub write_fault : answer ≡ Status.WriteFault Target.Out
-      → WritesRose run.folder run.folder_after names.out × IsRepairable run.folder names limits
+      → WritesRose run.folder run.folder_after asked.names.out
+      × IsRepairable (IsReadIn run asked limits)
   -- the summary could not be put after OUT was written; the documents leave no class empty
   pub output_fault : answer ≡ Status.WriteFault Target.Output
-      → PutsRose run.output run.output_after × IsRepairable run.folder names limits
-      × IsPutShort run names limits
+      → PutsRose run.output run.output_after × IsRepairable (IsReadIn run asked limits)
+      × IsPutShort run (IsReadIn run asked limits)
   -- if nothing failed, and the files are read and leave no class empty, the run is done
-  pub complete : IfTold run (λ files. HasNoFault run names
-      → IsRepairable run.folder names limits → IsOrMemory Status.Done answer)
+  pub complete : IfTold run (λ files. HasNoFault run asked.names
+      → IsRepairable (IsReadIn run asked limits) → IsOrMemory Status.Done answer)
   -- how the files stand
-  pub files : FilesStand run names limits answer
+  pub files : FilesStand run asked limits answer

@@ -119,7 +119,9 @@ load_line speaker fault = line_of speaker (load_text fault)
 -- output no line
 abbrev pub refusal_line : Status → List ℕ
 refusal_line Status.Done = []
-refusal_line Status.Words = codes "alod: usage: alod LEFT RIGHT MAP OUT EVIDENCE\n"
+refusal_line Status.Words =
+    codes "alod: usage: alod [--workers N] [--el-part] LEFT RIGHT MAP OUT EVIDENCE, or "
+    ++ codes "alod --made N [--workers N]\n"
 refusal_line (Status.Syntax side place kind) =
     load_line Speaker.Alod (LoadFault.Syntax side place kind)
 refusal_line (Status.Table fault) = load_line Speaker.Alod (LoadFault.Table fault)

@@ -13,6 +13,14 @@ use case_load::LoadFault;
 use io_edge::{PutAnswer, Sink};
 use std::alloc::{AllocError, Global};
 
+// The line of words that are no command.
+fn usage_line() -> &'static [u8]
+    ensures { result.now ≡ refusal_line Status.Words }
+{
+    b"alod: usage: alod [--workers N] [--el-part] LEFT RIGHT MAP OUT EVIDENCE, or alod --made N \
+[--workers N]\n"
+}
+
 // Puts a line that was made, if memory sufficed.
 fn put_made<S: Sink>(alloc: Global, out: &mut S, line: Result<Vec<u8>, AllocError>) -> PutAnswer
     ensures answer { (bytes : List ℕ) → IfOk line (λ line. line.items ≡ bytes)
@@ -71,7 +79,7 @@ pub fn put_refusal<S: Sink>(alloc: Global, out: &mut S, status: &Status) -> PutA
     let speaker = Speaker::Alod;
     match status {
         Status::Done => out.put(alloc, b""),
-        Status::Words => out.put(alloc, b"alod: usage: alod LEFT RIGHT MAP OUT EVIDENCE\n"),
+        Status::Words => out.put(alloc, usage_line()),
         Status::Syntax { side, place, kind } => {
             let (side, place, kind) = (*side, *place, *kind);
             put_load_fault(alloc, out, speaker, LoadFault::Syntax { side, place, kind })

@@ -16,7 +16,7 @@ use text_names::{Place, Text};
 pub enum Status {
     /// EVIDENCE holds the evidence, OUT the repaired table, and the summary is printed.
     Done,
-    /// The words do not name five files, of which OUT and EVIDENCE are none of the others.
+    /// The arguments are no command.
     Words,
     /// The ontology is no document.
     Syntax {

@@ -1,57 +1,88 @@
 -- Why a run stops short of being done, and what its steps leave.
-use Rattle.std.specs.Prelude.{◌≡◌, ◌⊎◌, ℕ, List, Some, IfSome, string_bytes, ⊤}
+use Rattle.std.specs.Prelude.{◌≡◌, ◌≢◌, ◌⊎◌, ℕ, ◌≤◌, Bool, false, List, Some, IfSome, string_bytes, ⊤}
 use Rattle.text_names.specs.declared.limits.Limits.{Limits}
 use Rattle.io_edge.specs.Outside.{FolderSeen, SinkSeen, WritesRose, PutsRose, HoldsFront, HasGotFront, with_file}
+use Rattle.io_edge.specs.declared.outside.Target.{Target}
 use Rattle.io_edge.specs.declared.outside.Target.TheVariants as Target
-use Rattle.ofn_axiom.specs.declared.types.Mode.TheVariants.{Strict}
+use Rattle.ofn_axiom.specs.declared.types.Mode.TheVariants.{ElPart}
+use Rattle.case_load.specs.Faults.{is_outside}
 use Rattle.case_load.specs.Folders.{IsFirstFileFault}
+use Rattle.case_load.specs.declared.fault.LoadFault.{LoadFault}
 use Rattle.case_load.specs.declared.fault.LoadFault.TheVariants as load
-use Rattle.status_lines.specs.declared.status.Status.{Status}
-use Rattle.repair_run.specs.declared.choosing.Results.{Results}
-use Rattle.repair_run.specs.Words.{FileNames}
-use Rattle.repair_run.specs.Outcomes.{inputs_named, IsIncoherentCase, IsRefusalEvidence, IsRepairable}
 use Rattle.case_load.specs.declared.texts.Loaded.{Loaded}
-use Rattle.el_logic.specs.declared.types.Part.{Part}
-use Rattle.repair_run.specs.Inside.Choices.{IsFound}
+use Rattle.command_words.specs.declared.types.FileNames.{FileNames}
+use Rattle.command_words.specs.declared.types.RepairWords.{RepairWords}
+use Rattle.command_words.specs.declared.types.RepairWords.TheVariants as repair
+use Rattle.status_lines.specs.declared.status.Status.{Status}
 use Rattle.status_lines.specs.Runs.{Run, IfTold}
-use Rattle.repair_run.specs.Run.{IsRunFault, IsPutShort, IsDecided, HoldsEvidence, HoldsBoth}
+use Rattle.repair_run.specs.declared.choosing.Results.{Results}
+use Rattle.repair_run.specs.declared.request.Request.{Request}
+use Rattle.repair_run.specs.Outcomes.{inputs_named, IsDecided, IsIncoherentCase, IsRefusalEvidence, IsRepairable}
+use Rattle.repair_run.specs.Run.{HoldsBoth, HoldsEvidence, IsPutShort, IsReadIn}
+use Rattle.repair_run.specs.Made.{IsMadeCase, IsMadeFault}
+use Rattle.repair_run.specs.Inside.Choices.{IsFound}
+use Rattle.el_logic.specs.declared.types.Part.{Part}
 
--- why the files are not loaded
-abbrev pub IsLoadStop : FolderSeen → FolderSeen → FileNames → Limits → Status → Type 0
-IsLoadStop old new names limits (Status.ReadFault file) =
-    IsFirstFileFault old new (inputs_named names) Strict limits (load.ReadFault file)
-IsLoadStop old new names limits (Status.Syntax side place kind) =
-    IsFirstFileFault old new (inputs_named names) Strict limits (load.Syntax side place kind)
-IsLoadStop old new names limits (Status.Profile side place head) =
-    IsFirstFileFault old new (inputs_named names) Strict limits (load.Profile side place head)
-IsLoadStop old new names limits (Status.Table fault) =
-    IsFirstFileFault old new (inputs_named names) Strict limits (load.Table fault)
-IsLoadStop old new names limits (Status.Limit kind) =
-    IsFirstFileFault old new (inputs_named names) Strict limits (load.Limit kind)
-IsLoadStop old new names limits Status.OutOfMemory = ⊤
-IsLoadStop old new names limits _ = ⊥
+-- the numbers of a command are within their ranges
+pub record AreNumbersOf (most number : ℕ) : Type 0 where
+  pub from_one : 1 ≤ number
+  pub to_most : number ≤ most
 
--- why a run stops
-abbrev pub IsStop : Run → FileNames → Limits → Status → Type 0
-IsStop run names limits (Status.ReadFault file) = IsRunFault run names limits (load.ReadFault file)
-IsStop run names limits (Status.Syntax side place kind) =
-    IsRunFault run names limits (load.Syntax side place kind)
-IsStop run names limits (Status.Profile side place head) =
-    IsRunFault run names limits (load.Profile side place head)
-IsStop run names limits (Status.Table fault) = IsRunFault run names limits (load.Table fault)
-IsStop run names limits (Status.Limit kind) = IsRunFault run names limits (load.Limit kind)
-IsStop run names limits (Status.Incoherent part iri) =
-    IsIncoherentCase run.folder names limits part iri
-IsStop run names limits (Status.WriteFault Target.Out) =
-    WritesRose run.folder run.folder_after names.out × IsRepairable run.folder names limits
-IsStop run names limits (Status.WriteFault Target.Output) =
-    PutsRose run.output run.output_after × IsRepairable run.folder names limits
-    × IsPutShort run names limits
-IsStop run names limits (Status.WriteFault Target.Evidence) =
-    WritesRose run.folder run.folder_after names.evidence × IsDecided run.folder names limits
-IsStop run names limits Status.OutOfMemory = ⊤
-IsStop run names limits Status.Done = ⊥
-IsStop run names limits Status.Words = ⊥
+abbrev pub IsInRange : RepairWords → Type 0
+IsInRange (repair.Files el_part workers names) = AreNumbersOf 16 workers
+IsInRange (repair.Made size workers) = AreNumbersOf 10000 size × AreNumbersOf 16 workers
+
+-- the first fault of the files; with `--el-part` nothing is outside the profile
+pub record IsFileStop (old new : FolderSeen) (asked : Request) (limits : Limits)
+    (fault : LoadFault) : Type 0 where
+  pub first : IsFirstFileFault old new (inputs_named asked.names) asked.mode limits fault
+  pub inside : asked.mode ≡ ElPart → is_outside fault ≡ false
+
+-- why nothing is loaded, if this is so of a fault
+abbrev pub IsLoadStop : (LoadFault → Type 0) → Status → Type 0
+IsLoadStop IsFault (Status.ReadFault file) = IsFault (load.ReadFault file)
+IsLoadStop IsFault (Status.Syntax side place kind) = IsFault (load.Syntax side place kind)
+IsLoadStop IsFault (Status.Profile side place head) = IsFault (load.Profile side place head)
+IsLoadStop IsFault (Status.Table fault) = IsFault (load.Table fault)
+IsLoadStop IsFault (Status.Limit kind) = IsFault (load.Limit kind)
+IsLoadStop IsFault Status.OutOfMemory = ⊤
+IsLoadStop IsFault _ = ⊥
+
+-- why a run stops, from what is so of a fault, of what is read and of a target not written
+abbrev pub IsStopBy : (LoadFault → Type 0) → (Loaded → Type 0) → (Target → Type 0) → Status → Type 0
+IsStopBy IsFault IsRead IsShort (Status.Incoherent part iri) = IsIncoherentCase IsRead part iri
+IsStopBy IsFault IsRead IsShort (Status.WriteFault target) = IsShort target
+IsStopBy IsFault IsRead IsShort answer = IsLoadStop IsFault answer
+
+-- how a write of a run over files fails
+abbrev pub IsWriteShort : Run → Request → Limits → Target → Type 0
+IsWriteShort run asked limits Target.Out =
+    WritesRose run.folder run.folder_after asked.names.out
+    × IsRepairable (IsReadIn run asked limits)
+IsWriteShort run asked limits Target.Output =
+    PutsRose run.output run.output_after × IsRepairable (IsReadIn run asked limits)
+    × IsPutShort run (IsReadIn run asked limits)
+IsWriteShort run asked limits Target.Evidence =
+    WritesRose run.folder run.folder_after asked.names.evidence
+    × IsDecided (IsReadIn run asked limits)
+
+-- why a run over files stops
+abbrev pub IsStop : Run → Request → Limits → Status → Type 0
+IsStop run asked limits =
+    IsStopBy (IsFileStop run.folder run.folder_after asked limits) (IsReadIn run asked limits)
+    (IsWriteShort run asked limits)
+
+-- how the put of a run over a made case fails
+abbrev pub IsMadeShort : Run → ℕ → Limits → Target → Type 0
+IsMadeShort run size limits Target.Output =
+    PutsRose run.output run.output_after × IsRepairable (IsMadeCase size limits)
+    × IsPutShort run (IsMadeCase size limits)
+IsMadeShort run size limits _ = ⊥
+
+-- why a run over a made case stops
+abbrev pub IsMadeStop : Run → ℕ → Limits → Status → Type 0
+IsMadeStop run size limits =
+    IsStopBy (IsMadeFault size limits) (IsMadeCase size limits) (IsMadeShort run size limits)
 
 -- how the output stands before the line of a refusal: nothing was put, but what a fault let through
 -- of the summary
