@@ -1,6 +1,6 @@
 //! The rows to keep, and what is written of them.
 
-ghost use Rattle.std.specs.Prelude.{◌≡◌, ◌≢◌, ◌<◌, ◌+◌, [], Some, length, IfOk, IfErr};
+ghost use Rattle.std.specs.Prelude.{◌≡◌, ◌≢◌, ◌≤◌, ◌<◌, ◌+◌, [], Some, length, IfOk, IfErr};
 ghost use Rattle.byte_words.specs.Faults.{OrOutOfMemory};
 ghost use Rattle.case_file.specs.Incoherence.{name_of};
 ghost use Rattle.derivation.specs.Steps.{IsGoodDerivation};
@@ -9,6 +9,7 @@ ghost use Rattle.saturate.specs.Decisions.{IsStartFault, start_ran_out};
 ghost use Rattle.repair_run.specs.declared.choosing.ChoiceStop.TheVariants.{OutOfMemory};
 ghost use Rattle.repair_run.specs.Outcomes.{case_in, iri_of_class, omitted_count, out_text_of, IsEvidence, IsRefusalEvidence};
 ghost use Rattle.repair_run.specs.Inside.Choices.{IsPlain, IsDecidedFor, IsChoice, IsChoiceStop, AreResultsOf};
+ghost use Rattle.repair_run.specs.Inside.Stops.{IsNumberTo};
 
 use case_file::excusing_none_is_incoherence;
 use case_load::Loaded;
@@ -18,6 +19,7 @@ use diagnosis::{KeptRows, diagnose, kept_rows};
 use el_logic::Part;
 use evidence_text::write_evidence;
 use evidence_values::evidence_is_a_value;
+use io_edge::Gate;
 use ofn_axiom::Names;
 use repaired_table::write_table;
 use run_evidence::{evidence_against, evidence_of};
@@ -114,12 +116,20 @@ fn refusal(alloc: Global, loaded: &Loaded, fault: StartFault) -> ChoiceStop
 }
 
 // The book in which every rank is decided, if the ontologies leave no class empty.
-fn decided(alloc: Global, loaded: &Loaded) -> Result<Book, ChoiceStop>
-    requires { IsPlain loaded.now }
+fn decided<R: Threads + Wait + Sync, G: Gate>(
+    rt: &R,
+    alloc: Global,
+    loaded: &Loaded,
+    workers: u32,
+    gate: &G,
+) -> Result<Book, ChoiceStop>
+    requires plain { IsPlain loaded.now }
+    requires workers { IsNumberTo 16 workers }
     ensures ok { IfOk result (IsDecidedFor loaded.now) }
     ensures err { IfErr result (IsChoiceStop loaded.now) }
 {
     excusing_none_is_incoherence();
+    let _ = (rt, workers, gate);
     let base = match start(alloc, &loaded.case) {
         Ok(base) => base,
         Err(fault) => return Err(refusal(alloc, loaded, fault)),
@@ -180,12 +190,19 @@ fn results_of(alloc: Global, loaded: &Loaded, book: &Book) -> Result<Results, Al
 }
 
 /// EVIDENCE, the text of OUT and the summary, if the ontologies leave no class empty.
-pub fn repaired(alloc: Global, loaded: &Loaded) -> Result<Results, ChoiceStop>
-    requires { IsPlain loaded.now }
+pub fn repaired<R: Threads + Wait + Sync, G: Gate>(
+    rt: &R,
+    alloc: Global,
+    loaded: &Loaded,
+    workers: u32,
+    gate: &G,
+) -> Result<Results, ChoiceStop>
+    requires plain { IsPlain loaded.now }
+    requires workers { IsNumberTo 16 workers }
     ensures ok { IfOk result (AreResultsOf loaded.now) }
     ensures err { IfErr result (IsChoiceStop loaded.now) }
 {
-    let book = match decided(alloc, loaded) {
+    let book = match decided(rt, alloc, loaded, workers, gate) {
         Ok(book) => book,
         Err(stop) => return Err(stop),
     };

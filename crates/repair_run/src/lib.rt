@@ -3,11 +3,15 @@
 #![tactic(auto)]
 
 mod choosing;
+mod commands;
 mod laws;
 mod loading;
+mod made;
+mod request;
 mod run;
-mod words;
+mod stubs;
+mod writing;
 
+pub use commands::repair;
 pub use laws::files_have_one_outcome;
-pub use run::repair;
 pub use status_lines::Status;

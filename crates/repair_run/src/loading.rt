@@ -1,18 +1,19 @@
-//! The files of a run.
+//! What a run is over: files, or a made case.
 
 ghost use Rattle.std.specs.Prelude.{◌≡◌, ◌≤◌, ◌<◌, ◌^◌, IfErr, IfOk};
 ghost use Rattle.io_edge.specs.Outside.{FaultsNeverFall};
 ghost use Rattle.repair_run.specs.Outcomes.{AreLoaded};
+ghost use Rattle.repair_run.specs.Made.{IsMadeCase, IsMadeFault};
 ghost use Rattle.repair_run.specs.Inside.Choices.{IsPlain};
-ghost use Rattle.repair_run.specs.Inside.Named.{named};
-ghost use Rattle.repair_run.specs.Inside.Stops.{IsLoadStop};
+ghost use Rattle.repair_run.specs.Inside.Stops.{IsFileStop, IsLoadStop, IsNumberTo};
 
-use crate::words::FileNames;
-use case_load::{Loaded, load};
+use crate::request::Request;
+use crate::stubs::{made_texts_are_short, runs_are_tellable};
+use case_load::{Loaded, assemble, load};
+use case_maker::make;
 use io_edge::Folder;
 use ofn_axiom::Mode;
 use rank_order::ranking_has_each_row_once;
-use run_evidence::strict_runs_are_tellable;
 use status_lines::{Status, status_of};
 use std::alloc::Global;
 use text_names::Limits;
@@ -20,7 +21,7 @@ use text_names::Limits;
 /// What LEFT, RIGHT and MAP say, or the answer of a run over files with a fault.
 pub fn loaded<F: Folder>(
     alloc: Global,
-    names: &FileNames<'_>,
+    asked: &Request,
     limits: &Limits,
     folder: &mut F,
 ) -> Result<Loaded, Status>
@@ -28,17 +29,39 @@ pub fn loaded<F: Folder>(
     requires depth { limits.now.depth ≤ 256 }
     ensures files { (F.seen folder.new).files ≡ (F.seen folder.old).files }
     ensures later { FaultsNeverFall (F.seen folder.old) (F.seen folder.new) }
-    ensures loaded { IfOk result
-        (AreLoaded (F.seen folder.old) (named names.now) limits.now) }
+    ensures loaded { IfOk result (AreLoaded (F.seen folder.old) asked.now limits.now) }
     ensures plain { IfOk result IsPlain }
-    ensures stop { IfErr result
-        (IsLoadStop (F.seen folder.old) (F.seen folder.new) (named names.now) limits.now) }
+    ensures stop { IfErr result (IsLoadStop
+        (IsFileStop (F.seen folder.old) (F.seen folder.new) asked.now limits.now)) }
 {
     ranking_has_each_row_once();
-    let (left, right, map) = (names.left, names.right, names.map);
-    match load(alloc, folder, left, right, map, Mode::Strict, limits) {
+    let names = &asked.names;
+    match load(alloc, folder, &names.left, &names.right, &names.map, asked.mode, limits) {
         Ok(loaded) => {
-            strict_runs_are_tellable(&loaded);
+            runs_are_tellable(&loaded);
+            Ok(loaded)
+        }
+        Err(fault) => Err(status_of(fault)),
+    }
+}
+
+/// What the texts of a made case say, or the answer of a run over texts with a fault.
+pub fn made_case(alloc: Global, size: u32, limits: &Limits) -> Result<Loaded, Status>
+    requires size { IsNumberTo 10000 size }
+    requires depth { limits.now.depth ≤ 256 }
+    ensures loaded { IfOk result (IsMadeCase size limits.now) }
+    ensures plain { IfOk result IsPlain }
+    ensures stop { IfErr result (IsLoadStop (IsMadeFault size limits.now)) }
+{
+    ranking_has_each_row_once();
+    made_texts_are_short();
+    let Ok(made) = make(alloc, size) else {
+        return Err(Status::OutOfMemory);
+    };
+    let (left, right) = (made.left.as_slice(), made.right.as_slice());
+    match assemble(alloc, left, right, made.table.as_slice(), Mode::Strict, limits) {
+        Ok(loaded) => {
+            runs_are_tellable(&loaded);
             Ok(loaded)
         }
         Err(fault) => Err(status_of(fault)),

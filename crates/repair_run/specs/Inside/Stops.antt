@@ -13,6 +13,8 @@ use Rattle.case_load.specs.declared.texts.Loaded.{Loaded}
 use Rattle.command_words.specs.declared.types.FileNames.{FileNames}
 use Rattle.command_words.specs.declared.types.RepairWords.{RepairWords}
 use Rattle.command_words.specs.declared.types.RepairWords.TheVariants as repair
+use Rattle.command_words.specs.declared.types.WordsFault.{WordsFault}
+use Rattle.command_words.specs.declared.types.WordsFault.TheVariants as words
 use Rattle.status_lines.specs.declared.status.Status.{Status}
 use Rattle.status_lines.specs.Runs.{Run, IfTold}
 use Rattle.repair_run.specs.declared.choosing.Results.{Results}
@@ -23,14 +25,19 @@ use Rattle.repair_run.specs.Made.{IsMadeCase, IsMadeFault}
 use Rattle.repair_run.specs.Inside.Choices.{IsFound}
 use Rattle.el_logic.specs.declared.types.Part.{Part}
 
--- the numbers of a command are within their ranges
-pub record AreNumbersOf (most number : ℕ) : Type 0 where
+-- a number of a command is within its range
+pub record IsNumberTo (most number : ℕ) : Type 0 where
   pub from_one : 1 ≤ number
   pub to_most : number ≤ most
 
 abbrev pub IsInRange : RepairWords → Type 0
-IsInRange (repair.Files el_part workers names) = AreNumbersOf 16 workers
-IsInRange (repair.Made size workers) = AreNumbersOf 10000 size × AreNumbersOf 16 workers
+IsInRange (repair.Files el_part workers names) = IsNumberTo 16 workers
+IsInRange (repair.Made size workers) = IsNumberTo 10000 size × IsNumberTo 16 workers
+
+-- the answer to words that are not read
+abbrev pub answer_to : WordsFault → Status
+answer_to words.Usage = Status.Words
+answer_to words.OutOfMemory = Status.OutOfMemory
 
 -- the first fault of the files; with `--el-part` nothing is outside the profile
 pub record IsFileStop (old new : FolderSeen) (asked : Request) (limits : Limits)
@@ -114,6 +121,13 @@ IsRefused old new loaded name (Status.WriteFault Target.Evidence) =
     × IsEvidenceStop old new name bytes (Status.WriteFault Target.Evidence)
 IsRefused old new loaded name Status.OutOfMemory = new.files ≡ old.files
 IsRefused old new loaded name _ = ⊥
+
+-- how the put of the summary may stop
+abbrev pub IsPutStop : SinkSeen → SinkSeen → List ℕ → Status → Type 0
+IsPutStop old new line (Status.WriteFault Target.Output) =
+    PutsRose old new × IfSome old.got (λ got. HasGotFront got new.got line)
+IsPutStop old new line Status.OutOfMemory = new.got ≡ old.got
+IsPutStop old new line _ = ⊥
 
 -- how the writing of OUT and of the summary may stop
 abbrev pub IsWriteStop : Run → List ℕ → List ℕ → List ℕ → Status → Type 0
