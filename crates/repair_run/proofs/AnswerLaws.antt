@@ -1,29 +1,30 @@
--- What a run answers, from why it stopped or was done.
-use Rattle.std.proofs.Common.{◌≡◌, List, ℕ, inl, inr, refl, sym, ◌∙◌, ap, subst, ⊎_elim}
+-- What a run over files answers, from why it stopped or was done.
+use Rattle.std.proofs.Common.{◌≡◌, List, ℕ, true, false, inl, inr, refl, sym, subst, ⊎_elim}
 use Rattle.std.specs.Prelude.{Option, Some, None, IfSome}
 use Rattle.text_names.specs.declared.limits.Limits.{Limits}
+use Rattle.text_names.specs.declared.place.Place.{Place}
 use Rattle.io_edge.specs.Outside.{Files, ReadsRose}
 use Rattle.io_edge.specs.declared.outside.Role.{Role}
 use Rattle.io_edge.specs.declared.outside.Role.TheVariants as role
-use Rattle.io_edge.specs.declared.outside.Target.TheVariants as Target
-use Rattle.el_logic.specs.declared.types.Part.{Part}
-use Rattle.el_logic.specs.Incoherent.{IsFirstIncoherent}
-use Rattle.ofn_axiom.specs.declared.types.Mode.TheVariants.{Strict}
-use Rattle.ofn_axiom.specs.declared.types.Names.{Names}
-use Rattle.case_file.specs.Cases.{CaseView}
+use Rattle.io_edge.specs.declared.outside.Target.{Target}
+use Rattle.io_edge.specs.declared.outside.Target.TheVariants as target
+use Rattle.el_logic.specs.declared.types.Side.{Side}
+use Rattle.ofn_heads.specs.declared.outside.HeadId.{HeadId}
+use Rattle.ofn_axiom.specs.declared.types.Mode.TheVariants.{ElPart}
 use Rattle.case_load.specs.Folders.{IsNotRead}
 use Rattle.case_load.specs.declared.fault.LoadFault.{LoadFault}
 use Rattle.case_load.specs.declared.fault.LoadFault.TheVariants as load
-use Rattle.case_load.specs.declared.texts.Loaded.{Loaded}
+use Rattle.command_words.specs.declared.types.FileNames.{FileNames}
 use Rattle.status_lines.specs.declared.status.Status.{Status}
 use Rattle.status_lines.specs.Lines.{status_of}
-use Rattle.repair_run.specs.Words.{FileNames, name_of}
-use Rattle.repair_run.specs.Outcomes.{AreLoaded, AreCoherentTogether, IsIncoherentCase, IsRepairable, case_in, inputs_named, iri_of_class}
 use Rattle.status_lines.specs.Runs.{Run, IfTold}
-use Rattle.repair_run.specs.Run.{IsRunFault, IsDone, IsRun, IsDecided, FilesStand, HasNoFault, IsOrMemory, IsOrReadStop, IsOrEvidenceStop}
-use Rattle.repair_run.specs.Inside.Stops.{IsStop}
+use Rattle.repair_run.specs.declared.request.Request.{Request}
+use Rattle.repair_run.specs.Outcomes.{IsRepairable, inputs_named}
+use Rattle.repair_run.specs.Run.{IsReadIn, IsRunFault, IsDone, IsRun, FilesStand, HasNoFault, IsOrMemory, IsOrReadStop, name_of}
+use Rattle.repair_run.specs.Inside.Stops.{IsFileStop, IsStop, IsWriteShort}
 use Rattle.repair_run.proofs.FaultLaws.{OneAnswer, IsNoRead, loaded_or_fault, one_loaded, one_file_fault}
-use Rattle.repair_run.proofs.FoundLaws.{MoreStay, one_part, is_incoherent, one_iri}
+use Rattle.repair_run.proofs.FoundLaws.{MoreStay}
+use Rattle.repair_run.proofs.StopLaws.{HasOneAnswer, ShortAfter, no_part, fault_stop, incoherent_stop, complete_stop}
 
 -- what is known if the files are told
 told : (o : Option Files) (P : Files → Type 0) → ((files : Files) → o ≡ Some files → P files) → IfSome o P
@@ -39,93 +40,44 @@ read_rose run names most role.Map h = h.1
 read_rose run names most role.Out h = absurd h.0
 read_rose run names most role.Evidence h = absurd h.0
 
-module _ (laws : OneAnswer) (more : MoreStay) (run : Run) (names : FileNames) (limits : Limits) where
-  module _ (files : Files) (are : run.folder.files ≡ Some files) where
-    -- files that are read have no fault
-    no_fault : (loaded : Loaded) (fault : LoadFault) → AreLoaded run.folder names limits loaded → IsNoRead fault → IsRunFault run names limits fault → ⊥
-    no_fault = loaded_or_fault laws run.folder run.folder_after files are (inputs_named names) Strict limits
+module _ (laws : OneAnswer) (more : MoreStay) (run : Run) (asked : Request) (limits : Limits) where
+  abbrev IsFault : LoadFault → Type 0
+  IsFault fault = IsRunFault run asked limits fault
 
-    -- one part and one class are the first that is found
-    one_found : (part part' : Part) (iri iri' : List ℕ) → IsIncoherentCase run.folder names limits part iri
-        → IsIncoherentCase run.folder names limits part' iri' → (part ≡ part') × (iri ≡ iri')
-    one_found part part' iri iri' h k =
-        let same = one_loaded laws run.folder run.folder_after files are (inputs_named names) Strict limits h.loaded k.loaded h.read k.read in
-        let case = case_in k.loaded in
-        let first = subst (λ (c : CaseView). IsFirstIncoherent c.classes c.properties c.left c.right part h.class) same.case h.first in
-        let named = subst (λ (n : Names). iri_of_class n.classes.names h.class ≡ Some iri) same.names h.named in
-        let one = one_part case.classes case.properties case.left case.right part part' h.class k.class first k.first in
-        (one.0, one_iri k.loaded.names.classes.names h.class k.class iri iri' one.1 named k.named)
+  abbrev IsSure : LoadFault → Type 0
+  IsSure fault = IsFileStop run.folder run.folder_after asked limits fault
 
-    -- documents that are coherent together have no first part that is not
-    no_part : (part : Part) (iri : List ℕ) → IsIncoherentCase run.folder names limits part iri → (loaded : Loaded)
-        → AreLoaded run.folder names limits loaded → AreCoherentTogether loaded → ⊥
-    no_part part iri h loaded read coherent =
-        let same = one_loaded laws run.folder run.folder_after files are (inputs_named names) Strict limits h.loaded loaded h.read read in
-        let case = case_in loaded in
-        let first = subst (λ (c : CaseView). IsFirstIncoherent c.classes c.properties c.left c.right part h.class) same.case h.first in
-        coherent (is_incoherent case.classes case.properties more case.left case.right part h.class first)
+  -- files that are told have one case or one fault
+  one_answer : (files : Files) → run.folder.files ≡ Some files → HasOneAnswer (IsRunFault run asked limits) (IsReadIn run asked limits)
+  one_answer files are = record {
+    never_both = loaded_or_fault laws run.folder run.folder_after files are (inputs_named asked.names) asked.mode limits;
+    one_case = one_loaded laws run.folder run.folder_after files are (inputs_named asked.names) asked.mode limits;
+    one_fault = one_file_fault laws run.folder run.folder_after files are (inputs_named asked.names) asked.mode limits;
+  }
 
-    -- nor have files whose documents are decided
-    no_decided_fault : (fault : LoadFault) → IsNoRead fault → IsRunFault run names limits fault → IsDecided run.folder names limits → ⊥
-    no_decided_fault fault n f (inl r) = no_fault r.loaded fault r.read n f
-    no_decided_fault fault n f (inr i) = no_fault i.2.loaded fault i.2.read n f
+  cause : (fault : LoadFault) → IsSure fault → IsFault fault
+  cause fault h = h.first
 
-    -- where the files have a fault, a run that stops says so, unless a read failed or memory ran out
-    fault_stop : (fault : LoadFault) → IsNoRead fault → IsRunFault run names limits fault → (s : Status) → IsStop run names limits s → IsOrReadStop (status_of fault) s
-    fault_stop fault n f s h = by s h
-      where
-        same : (other : LoadFault) → IsNoRead other → IsRunFault run names limits other → IsOrReadStop (status_of fault) (status_of other)
-        same other m g = inl (ap status_of (one_file_fault laws run.folder run.folder_after files are (inputs_named names) Strict limits other fault m n g f))
+  -- with `--el-part` nothing is outside the profile
+  outside : (side : Side) (place : Place) (head : HeadId) → IsSure (load.Profile side place head) → asked.mode ≡ ElPart → ⊥
+  outside side place head h mode = let both : true ≡ false = h.inside mode in absurd cc
 
-        by : (s : Status) → IsStop run names limits s → IsOrReadStop (status_of fault) s
-        by (Status.ReadFault file) h = inr (inl (file, refl))
-        by (Status.Syntax side place kind) h = same (load.Syntax side place kind) tt h
-        by (Status.Profile side place head) h = same (load.Profile side place head) tt h
-        by (Status.Table other) h = same (load.Table other) tt h
-        by (Status.Limit kind) h = same (load.Limit kind) tt h
-        by (Status.Incoherent part iri) h = absurd (no_fault h.loaded fault h.read n f)
-        by (Status.WriteFault Target.Out) h = absurd (no_fault h.1.loaded fault h.1.read n f)
-        by (Status.WriteFault Target.Output) h = absurd (no_fault h.1.loaded fault h.1.read n f)
-        by (Status.WriteFault Target.Evidence) h = absurd (no_decided_fault fault n f h.1)
-        by Status.OutOfMemory h = inr (inr refl)
-        by Status.Done h = absurd h
-        by Status.Words h = absurd h
+  short : (what : Target) → IsWriteShort run asked limits what → ShortAfter (IsReadIn run asked limits) what
+  short target.Out h = inl h.1
+  short target.Output h = inl h.1
+  short target.Evidence h = inr (refl, h.1)
 
-    -- and it names the first empty class if the documents leave a class empty
-    incoherent_stop : (part : Part) (iri : List ℕ) → IsIncoherentCase run.folder names limits part iri → (s : Status) → IsStop run names limits s
-        → IsOrEvidenceStop (Status.Incoherent part iri) s
-    incoherent_stop part iri case (Status.ReadFault file) h = inl (inr (inl (file, refl)))
-    incoherent_stop part iri case (Status.Syntax side place kind) h = absurd (no_fault case.loaded (load.Syntax side place kind) case.read tt h)
-    incoherent_stop part iri case (Status.Profile side place head) h = absurd (no_fault case.loaded (load.Profile side place head) case.read tt h)
-    incoherent_stop part iri case (Status.Table fault) h = absurd (no_fault case.loaded (load.Table fault) case.read tt h)
-    incoherent_stop part iri case (Status.Limit kind) h = absurd (no_fault case.loaded (load.Limit kind) case.read tt h)
-    incoherent_stop part iri case (Status.Incoherent part' iri') h =
-        let same = one_found part' part iri' iri h case in
-        inl (inl (ap {B = Status} (λ (r : Part). Status.Incoherent r iri') same.0 ∙ ap {B = Status} (λ (i : List ℕ). Status.Incoherent part i) same.1))
-    incoherent_stop part iri case (Status.WriteFault Target.Out) h = absurd (no_part part iri case h.1.loaded h.1.read h.1.coherent)
-    incoherent_stop part iri case (Status.WriteFault Target.Output) h = absurd (no_part part iri case h.1.loaded h.1.read h.1.coherent)
-    incoherent_stop part iri case (Status.WriteFault Target.Evidence) h = inr refl
-    incoherent_stop part iri case Status.OutOfMemory h = inl (inr (inr refl))
-    incoherent_stop part iri case Status.Done h = absurd h
-    incoherent_stop part iri case Status.Words h = absurd h
+  -- nothing failed
+  no_read : HasNoFault run asked.names → (file : Role) → IsSure (load.ReadFault file) → ⊥
+  no_read none file h = none.reads file (read_rose run asked.names limits.file_bytes file h.first)
 
-    -- nothing but memory stops a run over files that are read and coherent, if nothing failed
-    complete_stop : HasNoFault run names → IsRepairable run.folder names limits → (s : Status) → IsStop run names limits s → IsOrMemory Status.Done s
-    complete_stop none r (Status.ReadFault file) h = absurd (none.reads file (read_rose run names limits.file_bytes file h))
-    complete_stop none r (Status.Syntax side place kind) h = absurd (no_fault r.loaded (load.Syntax side place kind) r.read tt h)
-    complete_stop none r (Status.Profile side place head) h = absurd (no_fault r.loaded (load.Profile side place head) r.read tt h)
-    complete_stop none r (Status.Table fault) h = absurd (no_fault r.loaded (load.Table fault) r.read tt h)
-    complete_stop none r (Status.Limit kind) h = absurd (no_fault r.loaded (load.Limit kind) r.read tt h)
-    complete_stop none r (Status.Incoherent part iri) h = absurd (no_part part iri h r.loaded r.read r.coherent)
-    complete_stop none r (Status.WriteFault Target.Out) h = absurd (none.write h.0)
-    complete_stop none r (Status.WriteFault Target.Output) h = absurd (none.put h.0)
-    complete_stop none r (Status.WriteFault Target.Evidence) h = absurd (none.write_evidence h.0)
-    complete_stop none r Status.OutOfMemory h = inr refl
-    complete_stop none r Status.Done h = absurd h
-    complete_stop none r Status.Words h = absurd h
+  no_short : HasNoFault run asked.names → (what : Target) → IsWriteShort run asked limits what → ⊥
+  no_short none target.Out h = none.write h.0
+  no_short none target.Output h = none.put h.0
+  no_short none target.Evidence h = none.write_evidence h.0
 
   -- a run that is done
-  pub done_run : IsDone run names limits → IsRun run names limits Status.Done
+  pub done_run : IsDone run asked limits → IsRun run asked limits Status.Done
   done_run done = record {
     done = λ same. done;
     words = λ (same : Status.Done ≡ Status.Words). cc;
@@ -134,53 +86,62 @@ module _ (laws : OneAnswer) (more : MoreStay) (run : Run) (names : FileNames) (l
     syntax_answer = λ side place kind. no_answer (load.Syntax side place kind) tt;
     profile = λ side place head (same : Status.Done ≡ Status.Profile side place head). absurd cc;
     profile_answer = λ side place head. no_answer (load.Profile side place head) tt;
+    no_profile = λ mode side place head (same : Status.Done ≡ Status.Profile side place head). cc;
     table = λ fault (same : Status.Done ≡ Status.Table fault). absurd cc;
     table_answer = λ fault. no_answer (load.Table fault) tt;
     limit = λ kind (same : Status.Done ≡ Status.Limit kind). absurd cc;
     limit_answer = λ kind. no_answer (load.Limit kind) tt;
     incoherent = λ part class (same : Status.Done ≡ Status.Incoherent part class). absurd cc;
-    incoherent_answer = λ part class. told run.folder.files _ (λ files are case. absurd (no_part files are part class case done.0.outcome.loaded done.0.outcome.read done.0.outcome.coherent));
-    evidence_fault = λ (same : Status.Done ≡ Status.WriteFault Target.Evidence). absurd cc;
-    write_fault = λ (same : Status.Done ≡ Status.WriteFault Target.Out). absurd cc;
-    output_fault = λ (same : Status.Done ≡ Status.WriteFault Target.Output). absurd cc;
+    incoherent_answer = λ part class. told run.folder.files _ (λ files are case.
+        absurd (no_part (IsRunFault run asked limits) (IsReadIn run asked limits) (one_answer files are) more part class case done.0.outcome.loaded done.0.outcome.read done.0.outcome.coherent));
+    evidence_fault = λ (same : Status.Done ≡ Status.WriteFault target.Evidence). absurd cc;
+    write_fault = λ (same : Status.Done ≡ Status.WriteFault target.Out). absurd cc;
+    output_fault = λ (same : Status.Done ≡ Status.WriteFault target.Output). absurd cc;
     complete = told run.folder.files _ (λ files are none r. inl refl);
     files = (done.0, done.1);
   }
     where
-      no_answer : (fault : LoadFault) → IsNoRead fault → IfTold run (λ files. IsRunFault run names limits fault → IsOrReadStop (status_of fault) Status.Done)
-      no_answer fault n = told run.folder.files _ (λ files are f. absurd (no_fault files are done.0.outcome.loaded fault done.0.outcome.read n f))
+      no_answer : (fault : LoadFault) → IsNoRead fault → IfTold run (λ files. IsRunFault run asked limits fault → IsOrReadStop (status_of fault) Status.Done)
+      no_answer fault n = told run.folder.files _ (λ files are f. absurd ((one_answer files are).never_both done.0.outcome.loaded fault done.0.outcome.read n f))
 
   -- a run that stops
-  stopped_run : (s : Status) → IsStop run names limits s → FilesStand run names limits s → IsRun run names limits s
+  pub stopped_run : (s : Status) → IsStop run asked limits s → FilesStand run asked limits s → IsRun run asked limits s
   stopped_run s stop files = record {
-    done = λ same. absurd (subst (IsStop run names limits) same stop);
-    words = λ same. subst (IsStop run names limits) same stop;
-    read_fault = λ file same. subst (IsStop run names limits) same stop;
-    syntax = λ side place kind same. subst (IsStop run names limits) same stop;
+    done = λ same. absurd (subst (IsStop run asked limits) same stop);
+    words = λ same. subst (IsStop run asked limits) same stop;
+    read_fault = λ file same. cause (load.ReadFault file) (subst (IsStop run asked limits) same stop);
+    syntax = λ side place kind same. cause (load.Syntax side place kind) (subst (IsStop run asked limits) same stop);
     syntax_answer = λ side place kind. answers (load.Syntax side place kind) tt;
-    profile = λ side place head same. subst (IsStop run names limits) same stop;
+    profile = λ side place head same. cause (load.Profile side place head) (subst (IsStop run asked limits) same stop);
     profile_answer = λ side place head. answers (load.Profile side place head) tt;
-    table = λ fault same. subst (IsStop run names limits) same stop;
+    no_profile = λ mode side place head same. outside side place head (subst (IsStop run asked limits) same stop) mode;
+    table = λ fault same. cause (load.Table fault) (subst (IsStop run asked limits) same stop);
     table_answer = λ fault. answers (load.Table fault) tt;
-    limit = λ kind same. subst (IsStop run names limits) same stop;
+    limit = λ kind same. cause (load.Limit kind) (subst (IsStop run asked limits) same stop);
     limit_answer = λ kind. answers (load.Limit kind) tt;
-    incoherent = λ part class same. subst (IsStop run names limits) same stop;
-    incoherent_answer = λ part class. told run.folder.files _ (λ f are case. incoherent_stop f are part class case s stop);
-    evidence_fault = λ same. subst (IsStop run names limits) same stop;
-    write_fault = λ same. subst (IsStop run names limits) same stop;
-    output_fault = λ same. subst (IsStop run names limits) same stop;
-    complete = told run.folder.files _ (λ f are none r. complete_stop f are none r s stop);
+    incoherent = λ part class same. subst (IsStop run asked limits) same stop;
+    incoherent_answer = λ part class. told run.folder.files _ (λ f are case.
+        incoherent_stop (IsRunFault run asked limits) (IsReadIn run asked limits) (one_answer f are) more
+        (IsFileStop run.folder run.folder_after asked limits) (IsWriteShort run asked limits) cause short part class case s stop);
+    evidence_fault = λ same. subst (IsStop run asked limits) same stop;
+    write_fault = λ same. subst (IsStop run asked limits) same stop;
+    output_fault = λ same. subst (IsStop run asked limits) same stop;
+    complete = told run.folder.files _ (λ f are none r.
+        complete_stop (IsRunFault run asked limits) (IsReadIn run asked limits) (one_answer f are) more
+        (IsFileStop run.folder run.folder_after asked limits) (IsWriteShort run asked limits) cause short (no_read none) (no_short none) r s stop);
     files = files;
   }
     where
-      answers : (fault : LoadFault) → IsNoRead fault → IfTold run (λ files. IsRunFault run names limits fault → IsOrReadStop (status_of fault) s)
-      answers fault n = told run.folder.files _ (λ f are g. fault_stop f are fault n g s stop)
+      answers : (fault : LoadFault) → IsNoRead fault → IfTold run (λ files. IsRunFault run asked limits fault → IsOrReadStop (status_of fault) s)
+      answers fault n = told run.folder.files _ (λ f are g.
+          fault_stop (IsRunFault run asked limits) (IsReadIn run asked limits) (one_answer f are) more
+          (IsFileStop run.folder run.folder_after asked limits) (IsWriteShort run asked limits) cause short fault n g s stop)
 
   -- how the files stand if memory ran out in place of another answer
-  memory_files : (s : Status) → IsStop run names limits s → FilesStand run names limits s → FilesStand run names limits Status.OutOfMemory
-  memory_files (Status.WriteFault Target.Evidence) h f = inr (inr (inr (inl (h.0, f))))
-  memory_files (Status.WriteFault Target.Out) h f = inr (inr (inr (inr (h.0, f))))
-  memory_files (Status.WriteFault Target.Output) h f = inr (inr (inl f))
+  memory_files : (s : Status) → IsStop run asked limits s → FilesStand run asked limits s → FilesStand run asked limits Status.OutOfMemory
+  memory_files (Status.WriteFault target.Evidence) h f = inr (inr (inr (inl (h.0, f))))
+  memory_files (Status.WriteFault target.Out) h f = inr (inr (inr (inr (h.0, f))))
+  memory_files (Status.WriteFault target.Output) h f = inr (inr (inl f))
   memory_files (Status.Incoherent part class) h f = inr (inl (f.1, inr (part, class, f.0, f.2), f.3))
   memory_files Status.OutOfMemory h f = f
   memory_files Status.Done h f = absurd h
@@ -188,8 +149,8 @@ module _ (laws : OneAnswer) (more : MoreStay) (run : Run) (names : FileNames) (l
   memory_files _ h f = inl f
 
   -- a run that stops, or ran out of memory while its line was put
-  pub refused_run : (s s' : Status) → IsStop run names limits s → FilesStand run names limits s → IsOrMemory s s' → IsRun run names limits s'
+  pub refused_run : (s s' : Status) → IsStop run asked limits s → FilesStand run asked limits s → IsOrMemory s s' → IsRun run asked limits s'
   refused_run s s' stop files m = ⊎_elim
-      (λ e. subst (IsRun run names limits) (sym e) (stopped_run s stop files))
-      (λ e. subst (IsRun run names limits) (sym e) (stopped_run Status.OutOfMemory tt (memory_files s stop files)))
+      (λ e. subst (IsRun run asked limits) (sym e) (stopped_run s stop files))
+      (λ e. subst (IsRun run asked limits) (sym e) (stopped_run Status.OutOfMemory tt (memory_files s stop files)))
       m

@@ -5,6 +5,8 @@ pub mod FoundLaws
 pub mod StartLaws
 pub mod ChoiceLaws
 pub mod RunLaws
+pub mod StopLaws
 pub mod AnswerLaws
+pub mod MadeLaws
 pub mod OutcomeLaws
 pub mod LineLaws

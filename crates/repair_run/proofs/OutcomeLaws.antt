@@ -4,7 +4,6 @@ use Rattle.std.specs.Prelude.{Some, ◌+◌}
 use Rattle.text_names.specs.declared.limits.Limits.{Limits}
 use Rattle.io_edge.specs.Outside.{Files, FolderSeen}
 use Rattle.conflict_logic.specs.Repair.{IsRepair}
-use Rattle.ofn_axiom.specs.declared.types.Mode.TheVariants.{Strict}
 use Rattle.ofn_axiom.specs.declared.types.SideOmitted.{SideOmitted}
 use Rattle.sssom_rows.specs.declared.table.Table.{Table}
 use Rattle.case_file.specs.Cases.{CaseView}
@@ -12,14 +11,14 @@ use Rattle.case_load.specs.Loads.{SayTheSame}
 use Rattle.diagnosis.specs.Rows.{keep_of}
 use Rattle.repaired_table.specs.Repaired.{repaired_text}
 use Rattle.status_lines.specs.Lines.{summary_text}
-use Rattle.repair_run.specs.Words.{FileNames}
-use Rattle.repair_run.specs.Outcomes.{Outcome, AreIncoherentWith, case_in, inputs_named, keep_in, kept_count, omitted_count, out_text, summary_of}
+use Rattle.repair_run.specs.declared.request.Request.{Request}
+use Rattle.repair_run.specs.Outcomes.{Outcome, AreIncoherentWith, AreLoaded, case_in, inputs_named, keep_in, kept_count, omitted_count, out_text, summary_of}
 use Rattle.repair_run.proofs.FaultLaws.{OneAnswer, one_loaded}
 use Rattle.repair_run.proofs.KeepLaws.{same_keep}
 
-module _ (laws : OneAnswer) (folder : FolderSeen) (files : Files) (names : FileNames) (limits : Limits) (one other : Outcome folder names limits) (told : folder.files ≡ Some files) where
+module _ (laws : OneAnswer) (folder : FolderSeen) (files : Files) (asked : Request) (limits : Limits) (one other : Outcome (AreLoaded folder asked limits)) (told : folder.files ≡ Some files) where
   same : SayTheSame one.loaded other.loaded
-  same = one_loaded laws folder folder files told (inputs_named names) Strict limits one.loaded other.loaded one.read other.read
+  same = one_loaded laws folder folder files told (inputs_named asked.names) asked.mode limits one.loaded other.loaded one.read other.read
 
   kept : keep_in one.loaded one.kept ≡ keep_in other.loaded other.kept
   kept =

@@ -3,24 +3,26 @@ use Rattle.std.proofs.Common.{◌≡◌, ◌⊎◌, ◌≤◌, ℕ, List, ◌++�
 use Rattle.std.specs.Prelude.{Option, Some, None, IfSome, string_bytes}
 use Rattle.text_names.specs.declared.limits.Limits.{Limits}
 use Rattle.io_edge.specs.Outside.{Files, FolderSeen, SinkSeen, FaultsNeverFall, Rose, HoldsFront, HasGotFront, with_file}
+use Rattle.io_edge.specs.declared.outside.Target.{Target}
 use Rattle.io_edge.specs.declared.outside.Target.TheVariants as Target
 use Rattle.el_logic.specs.declared.types.Part.{Part}
 use Rattle.byte_words.specs.Faults.{OrOutOfMemory}
-use Rattle.ofn_axiom.specs.declared.types.Mode.TheVariants.{Strict}
-use Rattle.case_load.specs.Faults.{load_ran_out}
+use Rattle.ofn_axiom.specs.declared.types.Mode.TheVariants.{ElPart}
+use Rattle.case_load.specs.Faults.{is_outside, load_ran_out}
 use Rattle.case_load.specs.Folders.{IsFirstFileFault}
 use Rattle.case_load.specs.declared.fault.LoadFault.{LoadFault}
 use Rattle.case_load.specs.declared.fault.LoadFault.TheVariants as load
 use Rattle.case_load.specs.declared.texts.Loaded.{Loaded}
 use Rattle.status_lines.specs.declared.status.Status.{Status}
 use Rattle.status_lines.specs.Lines.{refusal_line, status_of}
-use Rattle.repair_run.specs.Words.{FileNames}
+use Rattle.command_words.specs.declared.types.FileNames.{FileNames}
 use Rattle.repair_run.specs.declared.choosing.Results.{Results}
-use Rattle.repair_run.specs.Outcomes.{Outcome, inputs_named, AreLoaded, IsIncoherentCase, IsRepairable, out_text_of}
+use Rattle.repair_run.specs.declared.request.Request.{Request}
+use Rattle.repair_run.specs.Outcomes.{Outcome, inputs_named, IsIncoherentCase, IsRepairable, out_text_of}
 use Rattle.status_lines.specs.Runs.{Run, IfTold, HasGot}
-use Rattle.repair_run.specs.Run.{Shown, HoldsEvidence, HoldsBoth, IsDone, IsTorn, IsPutShort, FilesStand, OutputStands}
-use Rattle.repair_run.specs.Inside.Choices.{AreResultsOf}
-use Rattle.repair_run.specs.Inside.Stops.{IsLoadStop, IsStop, IsQuiet, IsEvidenceStop, IsRefusal, IsRefused, IsWriteStop, Written, IsResultStop, AreWritten, written_of}
+use Rattle.repair_run.specs.Run.{Shown, HoldsEvidence, HoldsBoth, IsReadIn, IsDone, IsTorn, IsPutShort, FilesStand, OutputStands}
+use Rattle.repair_run.specs.Inside.Choices.{AreResultsOf, IsFound}
+use Rattle.repair_run.specs.Inside.Stops.{IsFileStop, IsLoadStop, IsPutStop, IsStop, IsStopBy, IsQuiet, IsEvidenceStop, IsRefusal, IsRefused, IsWriteStop, Written, IsResultStop, AreWritten, written_of}
 
 -- the line of an answer, whole
 line_of_answer : (got : Option (List ℕ)) (faults : ℕ) (new : SinkSeen) (s : Status) → IfSome got (λ bytes. new.got ≡ Some (bytes ++ refusal_line s))
@@ -43,51 +45,55 @@ line_whole old new s h = line_of_answer old.got old.faults new s h
 rose_later : (first before now : ℕ) → first ≤ before → Rose before now → Rose first now
 rose_later first before now le h = omega (arith, le, h)
 
--- why a run stops whose files have a fault
-pub fault_stops : (old new : FolderSeen) (names : FileNames) (limits : Limits) (fault : LoadFault)
-    → OrOutOfMemory load_ran_out (IsFirstFileFault old new (inputs_named names) Strict limits) fault → IsLoadStop old new names limits (status_of fault)
-fault_stops old new names limits load.OutOfMemory h = tt
-fault_stops old new names limits (load.ReadFault file) h = h
-fault_stops old new names limits (load.Syntax side place kind) h = h
-fault_stops old new names limits (load.Profile side place head) h = h
-fault_stops old new names limits (load.Table fault) h = h
-fault_stops old new names limits (load.Limit kind) h = h
+-- why nothing is loaded of files with a fault, and of texts
+pub file_stops : (old new : FolderSeen) (asked : Request) (limits : Limits) (fault : LoadFault)
+    → OrOutOfMemory load_ran_out (IsFirstFileFault old new (inputs_named asked.names) asked.mode limits) fault
+    → (asked.mode ≡ ElPart → is_outside fault ≡ false) → IsLoadStop (IsFileStop old new asked limits) (status_of fault)
+file_stops old new asked limits load.OutOfMemory h inside = tt
+file_stops old new asked limits (load.ReadFault file) h inside = record { first = h; inside = inside }
+file_stops old new asked limits (load.Syntax side place kind) h inside = record { first = h; inside = inside }
+file_stops old new asked limits (load.Profile side place head) h inside = record { first = h; inside = inside }
+file_stops old new asked limits (load.Table fault) h inside = record { first = h; inside = inside }
+file_stops old new asked limits (load.Limit kind) h inside = record { first = h; inside = inside }
 
-module _ (run : Run) (names : FileNames) (limits : Limits) where
-  abbrev LoadStops : Status → Type 0
-  LoadStops s = IsLoadStop run.folder run.folder_after names limits s
+pub fault_stops : (IsFault : LoadFault → Type 0) (fault : LoadFault) → OrOutOfMemory load_ran_out IsFault fault → IsLoadStop IsFault (status_of fault)
+fault_stops IsFault load.OutOfMemory h = tt
+fault_stops IsFault (load.ReadFault file) h = h
+fault_stops IsFault (load.Syntax side place kind) h = h
+fault_stops IsFault (load.Profile side place head) h = h
+fault_stops IsFault (load.Table fault) h = h
+fault_stops IsFault (load.Limit kind) h = h
 
-  pub load_stop : (s : Status) → LoadStops s → IsStop run names limits s
-  load_stop (Status.ReadFault file) h = h
-  load_stop (Status.Syntax side place kind) h = h
-  load_stop (Status.Profile side place head) h = h
-  load_stop (Status.Table fault) h = h
-  load_stop (Status.Limit kind) h = h
-  load_stop Status.OutOfMemory h = tt
-  load_stop (Status.WriteFault Target.Output) h = absurd h
-  load_stop (Status.WriteFault Target.Out) h = absurd h
-  load_stop (Status.WriteFault Target.Evidence) h = absurd h
-  load_stop _ h = absurd h
+-- if nothing is loaded the run stops
+pub load_stop : (IsFault : LoadFault → Type 0) (IsRead : Loaded → Type 0) (IsShort : Target → Type 0) (s : Status)
+    → IsLoadStop IsFault s → IsStopBy IsFault IsRead IsShort s
+load_stop IsFault IsRead IsShort (Status.Incoherent part iri) h = absurd h
+load_stop IsFault IsRead IsShort (Status.WriteFault what) h = absurd h
+load_stop IsFault IsRead IsShort (Status.ReadFault file) h = h
+load_stop IsFault IsRead IsShort (Status.Syntax side place kind) h = h
+load_stop IsFault IsRead IsShort (Status.Profile side place head) h = h
+load_stop IsFault IsRead IsShort (Status.Table fault) h = h
+load_stop IsFault IsRead IsShort (Status.Limit kind) h = h
+load_stop IsFault IsRead IsShort Status.OutOfMemory h = h
+load_stop IsFault IsRead IsShort Status.Done h = absurd h
+load_stop IsFault IsRead IsShort Status.Words h = absurd h
 
-  -- it has changed no file and put nothing
-  pub load_files : run.folder_after.files ≡ run.folder.files → (s : Status) → LoadStops s → FilesStand run names limits s
-  load_files same (Status.ReadFault file) h = same
-  load_files same (Status.Syntax side place kind) h = same
-  load_files same (Status.Profile side place head) h = same
-  load_files same (Status.Table fault) h = same
-  load_files same (Status.Limit kind) h = same
-  load_files same Status.OutOfMemory h = inl same
-  load_files same (Status.WriteFault Target.Output) h = absurd h
-  load_files same (Status.WriteFault Target.Out) h = absurd h
-  load_files same (Status.WriteFault Target.Evidence) h = absurd h
-  load_files same _ h = absurd h
+-- it has changed no file and put nothing
+pub load_files : (run : Run) (asked : Request) (limits : Limits) (IsFault : LoadFault → Type 0) → run.folder_after.files ≡ run.folder.files
+    → (s : Status) → IsLoadStop IsFault s → FilesStand run asked limits s
+load_files run asked limits IsFault same (Status.ReadFault file) h = same
+load_files run asked limits IsFault same (Status.Syntax side place kind) h = same
+load_files run asked limits IsFault same (Status.Profile side place head) h = same
+load_files run asked limits IsFault same (Status.Table fault) h = same
+load_files run asked limits IsFault same (Status.Limit kind) h = same
+load_files run asked limits IsFault same Status.OutOfMemory h = inl same
+load_files run asked limits IsFault same (Status.WriteFault what) h = absurd h
+load_files run asked limits IsFault same _ h = absurd h
 
-  pub load_quiet : (seen : SinkSeen) (s : Status) → LoadStops s → IsQuiet seen seen s
-  load_quiet seen (Status.WriteFault Target.Output) h = absurd h
-  load_quiet seen (Status.WriteFault Target.Out) h = absurd h
-  load_quiet seen (Status.WriteFault Target.Evidence) h = absurd h
-  load_quiet seen Status.OutOfMemory h = refl
-  load_quiet seen _ h = refl
+pub load_quiet : (IsFault : LoadFault → Type 0) (seen : SinkSeen) (s : Status) → IsLoadStop IsFault s → IsQuiet seen seen s
+load_quiet IsFault seen (Status.WriteFault what) h = absurd h
+load_quiet IsFault seen Status.OutOfMemory h = refl
+load_quiet IsFault seen _ h = refl
 
 -- what a write left, in a folder that tells what another tells
 pub later_told : (o p : Option Files) (P : Files → Type 0) → p ≡ o → IfSome p P → IfSome o P
@@ -180,15 +186,30 @@ refused_from_first old middle new loaded name later same (Status.WriteFault Targ
 refused_from_first old middle new loaded name later same (Status.WriteFault Target.Output) h = absurd h
 refused_from_first old middle new loaded name later same _ h = absurd h
 
-module _ (run : Run) (names : FileNames) (limits : Limits) (loaded : Loaded) (read : AreLoaded run.folder names limits loaded) where
+-- what was read, and what is found or kept of it
+module _ (IsRead : Loaded → Type 0) (loaded : Loaded) (read : IsRead loaded) where
+  abbrev pub incoherent_in : (part : Part) (iri : List ℕ) → IsFound loaded part iri → IsIncoherentCase IsRead part iri
+  incoherent_in part iri found = record { loaded = loaded; read = read; class = found.class; first = found.first; named = found.named }
+
+  module _ (results : Results) (are : AreResultsOf loaded results) where
+    abbrev pub outcome_in : Outcome IsRead
+    outcome_in = record { loaded = loaded; read = read; coherent = are.is_kept.coherent; kept = are.kept; repair = are.is_kept.repair }
+
+    abbrev pub repairable_in : IsRepairable IsRead
+    repairable_in = record { loaded = loaded; read = read; coherent = are.is_kept.coherent }
+
+    pub put_short : (run : Run) → IfSome run.output.got (λ got. HasGotFront got run.output_after.got (string_bytes results.line)) → IsPutShort run IsRead
+    put_short run put = (outcome_in, subst (λ (t : List ℕ). IfSome run.output.got (λ got. HasGotFront got run.output_after.got t)) are.line put)
+
+module _ (run : Run) (asked : Request) (limits : Limits) (loaded : Loaded) (read : IsReadIn run asked limits loaded) where
   -- how a run ends whose documents leave a class empty
-  abbrev incoherent : (part : Part) (iri : List ℕ) (bytes : List ℕ) → IsRefusal loaded bytes part iri → IsIncoherentCase run.folder names limits part iri
-  incoherent part iri bytes r = record { loaded = loaded; read = read; class = r.found.class; first = r.found.first; named = r.found.named }
+  abbrev incoherent : (part : Part) (iri : List ℕ) (bytes : List ℕ) → IsRefusal loaded bytes part iri → IsIncoherentCase (IsReadIn run asked limits) part iri
+  incoherent part iri bytes r = incoherent_in (IsReadIn run asked limits) loaded read part iri r.found
 
   abbrev Refuses : Status → Type 0
-  Refuses s = IsRefused run.folder run.folder_after loaded names.evidence s
+  Refuses s = IsRefused run.folder run.folder_after loaded asked.names.evidence s
 
-  pub refused_stop : (s : Status) → Refuses s → IsStop run names limits s
+  pub refused_stop : (s : Status) → Refuses s → IsStop run asked limits s
   refused_stop (Status.Incoherent part iri) h = incoherent part iri h.0 h.1
   refused_stop (Status.WriteFault Target.Evidence) h = (h.4.0, inr (h.1, h.2, incoherent h.1 h.2 h.0 h.3))
   refused_stop Status.OutOfMemory h = tt
@@ -203,7 +224,7 @@ module _ (run : Run) (names : FileNames) (limits : Limits) (loaded : Loaded) (re
   refused_quiet seen Status.OutOfMemory h = refl
   refused_quiet seen _ h = refl
 
-  pub refused_files : (s : Status) → Refuses s → FilesStand run names limits s
+  pub refused_files : (s : Status) → Refuses s → FilesStand run asked limits s
   refused_files (Status.Incoherent part iri) h = (incoherent part iri h.0 h.1, h.0, h.1.evidence, h.2)
   refused_files (Status.WriteFault Target.Evidence) h = (h.0, inr (h.1, h.2, incoherent h.1 h.2 h.0 h.3, h.3.evidence), h.4.1)
   refused_files Status.OutOfMemory h = inl h
@@ -213,41 +234,38 @@ module _ (run : Run) (names : FileNames) (limits : Limits) (loaded : Loaded) (re
 
   -- what was read, and what is kept of it
   module _ (results : Results) (are : AreResultsOf loaded results) where
-    abbrev outcome : Outcome run.folder names limits
-    outcome = record { loaded = loaded; read = read; coherent = are.is_kept.coherent; kept = are.kept; repair = are.is_kept.repair }
+    abbrev outcome : Outcome (IsReadIn run asked limits)
+    outcome = outcome_in (IsReadIn run asked limits) loaded read results are
 
-    abbrev shown : Shown run.folder names limits
+    abbrev shown : Shown (IsReadIn run asked limits)
     shown = record { outcome = outcome; evidence = results.evidence; valid = are.evidence }
 
-    repairable : IsRepairable run.folder names limits
-    repairable = record { loaded = loaded; read = read; coherent = are.is_kept.coherent }
+    repairable : IsRepairable (IsReadIn run asked limits)
+    repairable = repairable_in (IsReadIn run asked limits) loaded read results are
 
-    put_short : IfSome run.output.got (λ got. HasGotFront got run.output_after.got (string_bytes results.line)) → IsPutShort run names limits
-    put_short put = (outcome, subst (λ (t : List ℕ). IfSome run.output.got (λ got. HasGotFront got run.output_after.got t)) are.line put)
+    holds : AreWritten run asked.names (written_of results) → IfTold run (λ files. HoldsBoth run files asked.names results.evidence (out_text_of loaded are.kept))
+    holds written = subst (λ (t : List ℕ). IfTold run (λ files. HoldsBoth run files asked.names results.evidence t)) are.text written
 
-    holds : AreWritten run names (written_of results) → IfTold run (λ files. HoldsBoth run files names results.evidence (out_text_of loaded are.kept))
-    holds written = subst (λ (t : List ℕ). IfTold run (λ files. HoldsBoth run files names results.evidence t)) are.text written
-
-    pub done : AreWritten run names (written_of results) → HasGot run (string_bytes results.line) → IsDone run names limits
+    pub done : AreWritten run asked.names (written_of results) → HasGot run (string_bytes results.line) → IsDone run asked limits
     done written put = (shown, holds written, subst (HasGot run) are.line put)
 
-    torn : IfTold run (λ files. HoldsEvidence run files names results.evidence ⊎ HoldsFront (with_file files names.evidence results.evidence) run.folder_after.files names.out results.text) → IsTorn run names limits
-    torn written = (shown, subst (λ (t : List ℕ). IfTold run (λ files. HoldsEvidence run files names results.evidence ⊎ HoldsFront (with_file files names.evidence results.evidence) run.folder_after.files names.out t)) are.text written)
+    torn : IfTold run (λ files. HoldsEvidence run files asked.names results.evidence ⊎ HoldsFront (with_file files asked.names.evidence results.evidence) run.folder_after.files asked.names.out results.text) → IsTorn run asked limits
+    torn written = (shown, subst (λ (t : List ℕ). IfTold run (λ files. HoldsEvidence run files asked.names results.evidence ⊎ HoldsFront (with_file files asked.names.evidence results.evidence) run.folder_after.files asked.names.out t)) are.text written)
 
     abbrev Stops : Status → Type 0
-    Stops s = IsResultStop run names (written_of results) s
+    Stops s = IsResultStop run asked.names (written_of results) s
 
-    pub write_files : (s : Status) → Stops s → FilesStand run names limits s
+    pub write_files : (s : Status) → Stops s → FilesStand run asked limits s
     write_files (Status.WriteFault Target.Evidence) h = (results.evidence, inl (outcome, are.evidence), h.1)
     write_files (Status.WriteFault Target.Out) h = torn h.1
     write_files (Status.WriteFault Target.Output) h = (shown, holds h.1)
     write_files Status.OutOfMemory h = ⊎_elim inl (λ k. inr (⊎_elim (λ told. inl (results.evidence, inl (outcome, are.evidence), told)) (λ written. inr (inl (shown, holds written))) k)) h.0
     write_files _ h = absurd h
 
-    pub write_stop : (s : Status) → Stops s → IsStop run names limits s
+    pub write_stop : (s : Status) → Stops s → IsStop run asked limits s
     write_stop (Status.WriteFault Target.Evidence) h = (h.0, inl repairable)
     write_stop (Status.WriteFault Target.Out) h = (h.0, repairable)
-    write_stop (Status.WriteFault Target.Output) h = (h.0, repairable, put_short h.2)
+    write_stop (Status.WriteFault Target.Output) h = (h.0, repairable, put_short (IsReadIn run asked limits) loaded read results are run h.2)
     write_stop Status.OutOfMemory h = tt
     write_stop _ h = absurd h
 
