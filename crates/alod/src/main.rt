@@ -1,12 +1,14 @@
-//! alod LEFT RIGHT MAP OUT EVIDENCE: writes to OUT the mapping table MAP between the ontologies LEFT
-//! and RIGHT, without the rows that leave a class without any possible member, and to EVIDENCE why.
+//! alod [--workers N] [--el-part] LEFT RIGHT MAP OUT EVIDENCE: writes to OUT the mapping table MAP
+//! between the ontologies LEFT and RIGHT, without the rows that leave a class without any possible
+//! member, and to EVIDENCE why. alod --made N [--workers N]: does the same with a made case, without
+//! files.
 #![tactic(auto)]
 
 ghost use Rattle.std.specs.Prelude.{◌≡◌};
 ghost use Rattle.std.specs.Process.{exit_status};
 ghost use Rattle.status_lines.specs.Lines.{status_number};
 
-use io_edge::{RealFolder, StdSink};
+use io_edge::{OpenGate, RealFolder, StdSink};
 use repair_run::{Status, repair};
 use std::alloc::Global;
 use std::env;
@@ -55,6 +57,7 @@ fn main(rt: HostRuntime) -> ExitCode {
     let mut folder = RealFolder::new(&rt, alloc);
     let mut out = StdSink::new(&rt);
     let limits = Limits::standard();
-    let status = repair(alloc, words.as_slice(), &limits, &mut folder, &mut out);
+    let words = words.as_slice();
+    let status = repair(&rt, alloc, words, &limits, &mut folder, &mut out, &OpenGate);
     ended_with(&status)
 }

@@ -1,6 +1,6 @@
 -- What is chosen and what is written of it, from the steps to the case.
 use Rattle.std.proofs.Common.{◌≡◌, ◌+◌, ℕ, Bool, List, [], length, sym, ◌∙◌, ap, subst, arith}
-use Rattle.std.specs.Prelude.{Some}
+use Rattle.std.specs.Prelude.{◌<◌, ◌≤◌, ◌^◌, Some}
 use Rattle.std.specs.List.{range_with_len}
 use Rattle.std.proofs.lemmas.List.{length-map}
 use Rattle.std.proofs.lemmas.List.FromFn.{length-range_with_len}
@@ -93,3 +93,7 @@ module _ (loaded : Loaded) (ranks : List ℕ) (rows : KeptRows) (choice : IsChoi
       is ∙ ap (λ (n : ℕ). summary_text n rows.kept loaded.inert omitted) counted
       ∙ ap (λ (n : ℕ). summary_text (length loaded.table.rows) n loaded.inert omitted) (choice.counted ∙ ap kept_count choice.keep)
       ∙ ap (λ (n : ℕ). summary_text (length loaded.table.rows) (kept_count (keep_in loaded ranks)) loaded.inert n) left
+
+-- a file within the limits is short
+pub short_file : (most : ℕ) {bytes : List ℕ} → most < 2 ^ 31 → length bytes ≤ most → length bytes < 2 ^ 31
+short_file most few within = omega (arith, few, within)

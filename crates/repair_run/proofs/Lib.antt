@@ -10,3 +10,4 @@ pub mod AnswerLaws
 pub mod MadeLaws
 pub mod OutcomeLaws
 pub mod LineLaws
+pub mod WordLaws

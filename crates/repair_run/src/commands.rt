@@ -13,7 +13,9 @@ use crate::request::{Request, mode_if};
 use crate::run::run_over_files;
 use crate::writing::refuse;
 use crate::stubs::commands_have_numbers_in_range;
+use case_load::texts_have_one_case_or_first_fault;
 use command_words::{RepairWords, WordsFault, read_repair_words, words_have_one_reading};
+use el_logic::more_axioms_stay_incoherent;
 use io_edge::{Folder, Gate, Sink};
 use status_lines::Status;
 use std::alloc::Global;
@@ -102,6 +104,8 @@ pub fn repair<R: Threads + Wait + Sync, F: Folder, S: Sink, G: Gate>(
         ((command : RepairWords) → ¬ (IsRepair words.now command)) → IsUntouched run }
     ensures output { OutputStands (S.seen out.old) (S.seen out.new) result }
 {
+    texts_have_one_case_or_first_fault();
+    more_axioms_stay_incoherent();
     words_have_one_reading();
     commands_have_numbers_in_range();
     match read_repair_words(alloc, words) {

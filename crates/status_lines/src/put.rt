@@ -6,20 +6,12 @@ ghost use Rattle.status_lines.specs.Lines.{load_line, refusal_line};
 
 use crate::lines::{
     cannot_read, cannot_write, incoherent_line, limit_line, out_of_memory, profile_line,
-    syntax_line, table_line,
+    syntax_line, table_line, usage_line,
 };
 use crate::{Speaker, Status};
 use case_load::LoadFault;
 use io_edge::{PutAnswer, Sink};
 use std::alloc::{AllocError, Global};
-
-// The line of words that are no command.
-fn usage_line() -> &'static [u8]
-    ensures { result.now ≡ refusal_line Status.Words }
-{
-    b"alod: usage: alod [--workers N] [--el-part] LEFT RIGHT MAP OUT EVIDENCE, or alod --made N \
-[--workers N]\n"
-}
 
 // Puts a line that was made, if memory sufficed.
 fn put_made<S: Sink>(alloc: Global, out: &mut S, line: Result<Vec<u8>, AllocError>) -> PutAnswer

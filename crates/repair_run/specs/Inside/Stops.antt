@@ -26,9 +26,8 @@ use Rattle.repair_run.specs.Inside.Choices.{IsFound}
 use Rattle.el_logic.specs.declared.types.Part.{Part}
 
 -- a number of a command is within its range
-pub record IsNumberTo (most number : ℕ) : Type 0 where
-  pub from_one : 1 ≤ number
-  pub to_most : number ≤ most
+abbrev pub IsNumberTo : ℕ → ℕ → Type 0
+IsNumberTo most number = (1 ≤ number) × (number ≤ most)
 
 abbrev pub IsInRange : RepairWords → Type 0
 IsInRange (repair.Files el_part workers names) = IsNumberTo 16 workers
