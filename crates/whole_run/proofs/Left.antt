@@ -6,10 +6,12 @@ use Rattle.text_names.specs.declared.limits.Limits.{Limits}
 use Rattle.io_edge.specs.Outside.{Files, FolderSeen, with_file}
 use Rattle.case_load.specs.Folders.{IsFile}
 use Rattle.status_lines.specs.declared.status.Status.TheVariants as status
-use Rattle.status_lines.specs.Runs.{Run}
-use Rattle.repair_run.specs.Words.{FileNames}
-use Rattle.repair_run.specs.Outcomes.{out_text}
-use Rattle.repair_run.specs.Run.{HoldsBoth, IsRun, Shown}
+use Rattle.status_lines.specs.Runs.{Run, mode_if}
+use Rattle.command_words.specs.declared.types.FileNames.{FileNames}
+use Rattle.repair_run.specs.Commands.{request_of}
+use Rattle.repair_run.specs.declared.request.Request.{Request}
+use Rattle.repair_run.specs.Outcomes.{out_text, AreLoaded}
+use Rattle.repair_run.specs.Run.{HoldsBoth, IsReadIn, IsRun, Shown}
 use Rattle.check_run.specs.declared.reading.CheckTexts.{CheckTexts}
 use Rattle.check_run.specs.declared.status.CheckStatus.{CheckStatus}
 use Rattle.check_run.specs.declared.status.CheckStatus.TheVariants.{Yes}
@@ -26,14 +28,6 @@ other_file files name other bytes differ = ap (λ (same : Bool). cond same (Some
 pub own_file : (files : Files) (name bytes : List ℕ) → with_file files name bytes name ≡ Some bytes
 own_file files name bytes = ap (λ (same : Bool). cond same (Some bytes) (files name)) ((bytes_eq-Decides name name).1 refl)
 
--- names that differ do so in either order
-differ_back : (name other : List ℕ) → bytes_eq name other ≡ false → bytes_eq other name ≡ false
-differ_back name other h = by (bytes_eq other name) refl
-  where
-    by : (same : Bool) → bytes_eq other name ≡ same → same ≡ false
-    by false e = refl
-    by true e = absurd (true≢false (sym ((bytes_eq-Decides name other).1 (sym ((bytes_eq-Decides other name).0 e))) ∙ h))
-
 -- what is said of files that are told
 pub of_told : (P : Files → Type 0) (o : Option Files) (files : Files) → o ≡ Some files → IfSome o P → P files
 of_told P o files is h = subst (λ (q : Option Files). IfSome q P) is h
@@ -49,7 +43,7 @@ file_stays old new before after name bytes most was is same h =
     (h.0, if_told (λ (files : Files). files name ≡ Some bytes) new.files after is (same ∙ held))
 
 -- the texts of the five files of a run that is done
-abbrev texts_of : {folder : FolderSeen} {names : FileNames} {limits : Limits} → Shown folder names limits → CheckTexts
+abbrev texts_of : {folder : FolderSeen} {asked : Request} {limits : Limits} → Shown (AreLoaded folder asked limits) → CheckTexts
 texts_of s = record {
   left = s.outcome.read.texts.left;
   right = s.outcome.read.texts.right;
@@ -58,8 +52,8 @@ texts_of s = record {
   evidence = s.evidence;
 }
 
-module _ (names : FileNames) (apart : AreApart names) (limits : Limits) (run check : Run) (answer : CheckStatus)
-    (after : IsCheckedAfter run check (check_of names) limits answer) (s : Shown run.folder names limits)
+module _ (el_part : Bool) (names : FileNames) (apart : AreApart names) (limits : Limits) (run check : Run) (answer : CheckStatus)
+    (after : IsCheckedAfter run check (check_of el_part names) limits answer) (s : Shown (IsReadIn run (request_of el_part names) limits))
     (held : HoldsBoth run after.files names s.evidence (out_text s.outcome)) where
   abbrev first : Files
   first = with_file after.files names.evidence s.evidence
@@ -83,11 +77,11 @@ module _ (names : FileNames) (apart : AreApart names) (limits : Limits) (run che
 
   evidence_held : IsHeld check.folder names.evidence s.evidence
   evidence_held = if_told (λ (files : Files). files names.evidence ≡ Some s.evidence) check.folder.files left found
-      (other_file first names.out names.evidence (out_text s.outcome) (differ_back names.evidence names.out apart.evidence_out)
+      (other_file first names.out names.evidence (out_text s.outcome) apart.out_evidence
       ∙ own_file after.files names.evidence s.evidence)
 
   -- so the check reads what the run read, and what it left
-  abbrev checked : Checked check (check_of names) limits
+  abbrev checked : Checked check (check_of el_part names) limits
   checked =
       let read = s.outcome.read in
       record {
@@ -113,10 +107,10 @@ module _ (names : FileNames) (apart : AreApart names) (limits : Limits) (run che
       of_told _ check.folder.files left found after.checked.yes_answer after.no_fault checked (run_is_valid again s.outcome.loaded (texts_of s) s.valid)
 
 -- a run that is done is answered yes
-pub done_answered : ReadAgain → (names : FileNames) → AreApart names → (limits : Limits) (run check : Run) (answer : CheckStatus) → IsRun run names limits status.Done
-    → IsCheckedAfter run check (check_of names) limits answer → IsOrMemory Yes answer
-done_answered again names apart limits run check answer is after =
+pub done_answered : ReadAgain → (el_part : Bool) (names : FileNames) → AreApart names → (limits : Limits) (run check : Run) (answer : CheckStatus) → IsRun run (request_of el_part names) limits status.Done
+    → IsCheckedAfter run check (check_of el_part names) limits answer → IsOrMemory Yes answer
+done_answered again el_part names apart limits run check answer is after =
     let done = is.done refl in
     let s = done.0 in
-    answered names apart limits run check answer after s
+    answered el_part names apart limits run check answer after s
     (of_told (λ (files : Files). HoldsBoth run files names s.evidence (out_text s.outcome)) run.folder.files after.files after.told done.1) again

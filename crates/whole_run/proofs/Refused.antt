@@ -7,7 +7,6 @@ use Rattle.io_edge.specs.Outside.{Files, with_file}
 use Rattle.el_logic.specs.declared.types.Part.{Part}
 use Rattle.ofn_axiom.specs.declared.types.Document.{Document}
 use Rattle.ofn_axiom.specs.declared.types.Mode.{Mode}
-use Rattle.ofn_axiom.specs.declared.types.Mode.TheVariants.{Strict}
 use Rattle.ofn_axiom.specs.declared.types.Names.{Names}
 use Rattle.ofn_axiom.specs.Documents.{IsReading}
 use Rattle.sssom_rows.specs.declared.table.Table.{Table}
@@ -23,8 +22,10 @@ use Rattle.evidence_text.specs.EvidenceText.{plain}
 use Rattle.evidence_text.specs.Reading.{text_read}
 use Rattle.valid_evidence.specs.Items.{case_loaded, line_of_node, line_of_role}
 use Rattle.valid_evidence.specs.Valid.{IsRefusalBody, IsValidRefusal}
-use Rattle.status_lines.specs.Runs.{Run}
-use Rattle.repair_run.specs.Words.{FileNames}
+use Rattle.status_lines.specs.Runs.{Run, mode_if}
+use Rattle.command_words.specs.declared.types.FileNames.{FileNames}
+use Rattle.repair_run.specs.Commands.{request_of}
+use Rattle.repair_run.specs.Run.{IsReadIn}
 use Rattle.repair_run.specs.Outcomes.{IsIncoherentCase, IsRefusalEvidence, inputs_named}
 use Rattle.check_run.specs.declared.reading.CheckTexts.{CheckTexts}
 use Rattle.check_run.specs.declared.status.CheckStatus.{CheckStatus}
@@ -90,7 +91,7 @@ module _ (limits : Limits) (documents : Documents) (table bare : Table) (loaded 
 one_text : (one other : List ℕ) → Some one ≡ Some other → one ≡ other
 one_text one other h = cc
 
-module _ (names : FileNames) (apart : AreApart names) (limits : Limits) (run check : Run) (before : Files) (told : run.folder.files ≡ Some before)
+module _ (el_part : Bool) (names : FileNames) (apart : AreApart names) (limits : Limits) (run check : Run) (before : Files) (told : run.folder.files ≡ Some before)
     (bytes : List ℕ) (found : check.folder.files ≡ Some (with_file before names.evidence bytes)) (ran : Inputs)
     (were : AreFiles run.folder (inputs_named names) limits.file_bytes ran) (texts : CheckTexts)
     (are : AreRefusalTexts check.folder names.left names.right names.evidence limits.file_bytes texts) where
@@ -116,16 +117,16 @@ module _ (names : FileNames) (apart : AreApart names) (limits : Limits) (run che
   pub of_run : (P : List ℕ → List ℕ → Type 0) → P texts.left texts.right → P ran.left ran.right
   of_run P h = subst (λ (text : List ℕ). P ran.left text) same_right (subst (λ (text : List ℕ). P text texts.right) same_left h)
 
-module _ (reading : OneReading) (read_again : ReadAgain) (names : FileNames) (apart : AreApart names) (limits : Limits) (run check : Run) (part : Part) (class : List ℕ)
-    (answer : CheckStatus) (after : IsCheckedAfter run check (refusal_check_of names) limits answer) (i : IsIncoherentCase run.folder names limits part class)
+module _ (reading : OneReading) (read_again : ReadAgain) (el_part : Bool) (names : FileNames) (apart : AreApart names) (limits : Limits) (run check : Run) (part : Part) (class : List ℕ)
+    (answer : CheckStatus) (after : IsCheckedAfter run check (refusal_check_of el_part names) limits answer) (i : IsIncoherentCase (IsReadIn run (request_of el_part names) limits) part class)
     (bytes : List ℕ) (evidence : IsRefusalEvidence i.loaded part bytes) (found : check.folder.files ≡ Some (with_file after.files names.evidence bytes))
-    (c : Checked check (refusal_check_of names) limits) where
+    (c : Checked check (refusal_check_of el_part names) limits) where
   -- the documents are the same
   one_pair : i.read.from_texts.documents ≡ c.read.case.documents
   one_pair =
-      let read = of_run names apart limits run check after.files after.told bytes found i.read.texts i.read.files c.texts c.read.files
-      (λ left right. AreRead left right Strict limits c.read.case.documents) c.read.case.read.documents_read in
-      same_documents reading i.read.texts.left i.read.texts.right Strict limits i.read.from_texts.documents c.read.case.documents i.read.from_texts.read.documents_read read
+      let read = of_run el_part names apart limits run check after.files after.told bytes found i.read.texts i.read.files c.texts c.read.files
+      (λ left right. AreRead left right (mode_if el_part) limits c.read.case.documents) c.read.case.read.documents_read in
+      same_documents reading i.read.texts.left i.read.texts.right (mode_if el_part) limits i.read.from_texts.documents c.read.case.documents i.read.from_texts.read.documents_read read
 
   -- and the evidence is valid
   valid : (e : Evidence) → IsValidRefusal i.loaded part e → IsValidRefusal c.loaded part e
@@ -136,7 +137,7 @@ module _ (reading : OneReading) (read_again : ReadAgain) (names : FileNames) (ap
   -- so a check that makes a case of its files answers yes
   pub refused_yes : IsOrMemory Yes answer
   refused_yes =
-      let same = same_evidence names apart limits run check after.files after.told bytes found i.read.texts i.read.files c.texts c.read.files in
+      let same = same_evidence el_part names apart limits run check after.files after.told bytes found i.read.texts i.read.files c.texts c.read.files in
       of_told _ check.folder.files (with_file after.files names.evidence bytes) found after.checked.yes_answer after.no_fault c (
         part,
         plain evidence.0,
