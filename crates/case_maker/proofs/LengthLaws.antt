@@ -1,5 +1,5 @@
 -- The texts of the made case are short.
-use Rattle.std.proofs.Common.{◌≡◌, ◌≤◌, ◌<◌, ◌^◌, ℕ, zero, suc, ◌+◌, ◌*◌, ◌-◌, List, [], ◌∷◌, ◌++◌, length, codes, refl, ap, sym, ◌∙◌, subst, arith, add-one, decimal}
+use Rattle.std.proofs.Common.{◌≡◌, ◌≤◌, ◌<◌, ◌^◌, ℕ, zero, suc, ◌+◌, ◌*◌, ◌-◌, List, [], ◌++◌, length, codes, ap, sym, ◌∙◌, arith, add-one, decimal}
 use Rattle.std.proofs.lemmas.List.{length-append}
 use Rattle.std.proofs.lemmas.Fmt.{length-decimal-le}
 use Rattle.case_maker.specs.MadeCase.{lines_for, disjoint_line, successor_line, subclass_line, first_row, second_row, third_row, rows_of, left_text, right_text, table_text}
@@ -21,7 +21,7 @@ lines_bounded line most each (suc count) few =
     let before : length (lines_for line count) ≤ count * most = lines_bounded line most each count (omega arith) in
     let last : length (line (count + 1)) ≤ most = each (count + 1) (omega arith) in
     let all : length (lines_for line (suc count)) ≡ length (lines_for line count ++ line (count + 1)) =
-        ap (λ n. length (lines_for line n)) (sym (add-one count)) ∙ ap length (sym (lines_more [] line count)) in
+    ap (λ n. length (lines_for line n)) (sym (add-one count)) ∙ ap length (sym (lines_more [] line count)) in
     let sum = joined (lines_for line count) (line (count + 1)) (count * most) most before last in
     omega arith
 
