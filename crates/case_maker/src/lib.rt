@@ -7,5 +7,5 @@ mod lines;
 mod tests;
 mod texts;
 
-pub use laws::lines_follow_their_numbers;
+pub use laws::{lines_follow_their_numbers, made_texts_are_short};
 pub use texts::{Made, make};

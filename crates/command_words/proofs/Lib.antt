@@ -7,3 +7,4 @@ pub mod ReadingLaws
 pub mod FoundLaws
 pub mod ParseLaws
 pub mod CommandLaws
+pub mod RangeLaws

@@ -1,14 +1,15 @@
 -- When words are a command, and what it asks for.
-use Rattle.std.specs.Prelude.{◌≡◌, ℕ, Bool, true, false, not, ◌&&◌, ◌||◌, ◌==◌, if◌then◌else◌, List, [], ◌∷◌, length, Option, Some, None, option_map, unwrap_or, bytes_eq}
+use Rattle.std.specs.Prelude.{◌≡◌, ◌≤◌, ℕ, Bool, true, false, not, ◌&&◌, ◌||◌, ◌==◌, if◌then◌else◌, List, [], ◌∷◌, length, Option, Some, None, option_map, unwrap_or, bytes_eq}
 use Rattle.std.specs.List.{list_all}
 use Rattle.command_words.specs.declared.types.Program.TheVariants as program
 use Rattle.command_words.specs.declared.types.Options.{Options}
+use Rattle.command_words.specs.declared.types.Setting.TheVariants as setting
 use Rattle.command_words.specs.declared.types.FileNames.{FileNames}
 use Rattle.command_words.specs.declared.types.RepairWords.{RepairWords}
 use Rattle.command_words.specs.declared.types.RepairWords.TheVariants as repair
 use Rattle.command_words.specs.declared.types.CheckWords.{CheckWords}
 use Rattle.command_words.specs.declared.types.CheckWords.TheVariants as check
-use Rattle.command_words.specs.Words.{Given, Reads, nothing_given}
+use Rattle.command_words.specs.Words.{Given, Reads, nothing_given, most_of}
 
 abbrev pub is_filled : List ℕ → Bool
 is_filled name = not (length name == 0)
@@ -59,6 +60,16 @@ pub record IsRepair (words : List (List ℕ)) (command : RepairWords) : Type 0 w
   pub given : Given
   pub reads : Reads program.Repair nothing_given words given
   pub asks : repair_of given.options.made given ≡ Some command
+
+abbrev pub IsFromOneTo : ℕ → ℕ → Type 0
+IsFromOneTo most number = (1 ≤ number) × (number ≤ most)
+
+-- each number of a command is one that its option may have
+abbrev pub HasNumbersInRange : RepairWords → Type 0
+HasNumbersInRange (repair.Files el_part workers names) =
+    IsFromOneTo (most_of setting.Workers) workers
+HasNumbersInRange (repair.Made size workers) =
+    IsFromOneTo (most_of setting.Made) size × IsFromOneTo (most_of setting.Workers) workers
 
 -- ---- `alodcheck`: five names, or three for a refusal
 

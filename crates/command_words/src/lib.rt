@@ -13,6 +13,6 @@ mod tests;
 mod types;
 
 pub use check::read_check_words;
-pub use laws::words_have_one_reading;
+pub use laws::{commands_have_numbers_in_range, words_have_one_reading};
 pub use repair::read_repair_words;
 pub use types::{CheckWords, FileNames, Flag, Options, Program, RepairWords, Setting, WordsFault};
