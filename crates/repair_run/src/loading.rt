@@ -8,9 +8,9 @@ ghost use Rattle.repair_run.specs.Inside.Choices.{IsPlain};
 ghost use Rattle.repair_run.specs.Inside.Stops.{IsFileStop, IsLoadStop, IsNumberTo};
 
 use crate::request::Request;
-use crate::stubs::{made_texts_are_short, runs_are_tellable};
+use crate::stubs::runs_are_tellable;
 use case_load::{Loaded, assemble, load};
-use case_maker::make;
+use case_maker::{made_texts_are_short, make};
 use io_edge::Folder;
 use ofn_axiom::Mode;
 use rank_order::ranking_has_each_row_once;

@@ -2,7 +2,6 @@
 
 ghost use Rattle.std.specs.Prelude.{◌≤◌, ◌<◌, ◌^◌, ℕ, Bool, List, length};
 ghost use Rattle.case_load.specs.Loads.{Inputs, IsLoaded};
-ghost use Rattle.case_maker.specs.MadeCase.{left_text, right_text, table_text};
 ghost use Rattle.command_words.specs.Commands.{IsRepair};
 ghost use Rattle.command_words.specs.declared.types.FileNames.{FileNames};
 ghost use Rattle.command_words.specs.declared.types.RepairWords.TheVariants as repair;
@@ -28,10 +27,3 @@ pub fn runs_are_tellable(loaded: &Loaded)
 {
     let _ = loaded;
 }
-
-/// Stub.
-pub fn made_texts_are_short()
-    ensures left { (n : ℕ) → n ≤ 10000 → length (left_text n) < 2 ^ 31 }
-    ensures right { (n : ℕ) → n ≤ 10000 → length (right_text n) < 2 ^ 31 }
-    ensures table { (n : ℕ) → n ≤ 10000 → length (table_text n) < 2 ^ 31 }
-{}
