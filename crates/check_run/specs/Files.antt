@@ -1,10 +1,9 @@
 -- What a check reads, and the first fault of it.
-use Rattle.std.specs.Prelude.{◌≡◌, ℕ, Bool, true, false, List, [], codes, Some, IfSome, ⊤}
+use Rattle.std.specs.Prelude.{◌≡◌, ℕ, List, [], codes, Some, IfSome, ⊤}
 use Rattle.text_names.specs.declared.limits.Limits.{Limits}
 use Rattle.io_edge.specs.Outside.{FolderSeen, ReadsRose, IsLonger}
 use Rattle.io_edge.specs.declared.outside.Role.{Role}
 use Rattle.ofn_axiom.specs.declared.types.Mode.{Mode}
-use Rattle.ofn_axiom.specs.declared.types.Mode.TheVariants as mode
 use Rattle.case_load.specs.Loads.{Inputs, inputs, IsLoaded}
 use Rattle.case_load.specs.Faults.{IsFirstLoadFault}
 use Rattle.case_load.specs.Folders.{IsFile, AreFiles, IsWhole}
@@ -15,12 +14,8 @@ use Rattle.case_load.specs.declared.fault.LimitKind.TheVariants as limit
 use Rattle.command_words.specs.declared.types.FileNames.{FileNames}
 use Rattle.command_words.specs.declared.types.CheckWords.{CheckWords}
 use Rattle.command_words.specs.declared.types.CheckWords.TheVariants as check
+use Rattle.status_lines.specs.Runs.{mode_if}
 use Rattle.check_run.specs.declared.reading.CheckTexts.{CheckTexts}
-
--- what is done with axioms outside the fragment
-abbrev pub mode_if : Bool → Mode
-mode_if true = mode.ElPart
-mode_if false = mode.Strict
 
 abbrev pub mode_of : CheckWords → Mode
 mode_of (check.Repair el_part names) = mode_if el_part

@@ -1,6 +1,13 @@
 -- A run of a program, as clauses see it, and how its files and its output stand after it.
-use Rattle.std.specs.Prelude.{◌≡◌, ◌⊎◌, ℕ, List, ◌++◌, Some, IfSome}
+use Rattle.std.specs.Prelude.{◌≡◌, ◌⊎◌, ℕ, Bool, true, false, List, ◌++◌, Some, IfSome}
 use Rattle.io_edge.specs.Outside.{Files, FolderSeen, SinkSeen, PutsRose, HasGotFront}
+use Rattle.ofn_axiom.specs.declared.types.Mode.{Mode}
+use Rattle.ofn_axiom.specs.declared.types.Mode.TheVariants as mode
+
+-- what a run with the option `--el-part`, or without it, does with axioms outside the fragment
+abbrev pub mode_if : Bool → Mode
+mode_if true = mode.ElPart
+mode_if false = mode.Strict
 
 -- the folder and the output before the run, and after it
 pub record Run : Type 0 where
