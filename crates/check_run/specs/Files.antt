@@ -1,5 +1,5 @@
 -- What a check reads, and the first fault of it.
-use Rattle.std.specs.Prelude.{◌≡◌, ℕ, Bool, true, false, List, [], codes, Some, IfSome, ⊤}
+use Rattle.std.specs.Prelude.{◌≡◌, ℕ, List, [], codes, Some, IfSome, ⊤}
 use Rattle.text_names.specs.declared.limits.Limits.{Limits}
 use Rattle.io_edge.specs.Outside.{FolderSeen, ReadsRose, IsLonger}
 use Rattle.io_edge.specs.declared.outside.Role.{Role}

@@ -6,10 +6,10 @@ ghost use Rattle.case_file.specs.Incoherence.{name_of};
 ghost use Rattle.derivation.specs.Steps.{IsGoodDerivation};
 ghost use Rattle.accuse_core.specs.Marks.{kept_of};
 ghost use Rattle.saturate.specs.Decisions.{IsStartFault, start_ran_out};
+ghost use Rattle.command_words.specs.Commands.{IsFromOneTo};
 ghost use Rattle.repair_run.specs.declared.choosing.ChoiceStop.TheVariants.{OutOfMemory};
 ghost use Rattle.repair_run.specs.Outcomes.{case_in, iri_of_class, omitted_count, out_text_of, IsEvidence, IsRefusalEvidence};
 ghost use Rattle.repair_run.specs.Inside.Choices.{IsPlain, IsDecidedFor, IsChoice, IsChoiceStop, AreResultsOf};
-ghost use Rattle.repair_run.specs.Inside.Stops.{IsNumberTo};
 
 use case_file::excusing_none_is_incoherence;
 use case_load::Loaded;
@@ -124,7 +124,7 @@ fn decided<R: Threads + Wait + Sync, G: Gate>(
     gate: &G,
 ) -> Result<Book, ChoiceStop>
     requires plain { IsPlain loaded.now }
-    requires workers { IsNumberTo 16 workers }
+    requires workers { IsFromOneTo 16 workers }
     ensures ok { IfOk result (IsDecidedFor loaded.now) }
     ensures err { IfErr result (IsChoiceStop loaded.now) }
 {
@@ -198,7 +198,7 @@ pub fn repaired<R: Threads + Wait + Sync, G: Gate>(
     gate: &G,
 ) -> Result<Results, ChoiceStop>
     requires plain { IsPlain loaded.now }
-    requires workers { IsNumberTo 16 workers }
+    requires workers { IsFromOneTo 16 workers }
     ensures ok { IfOk result (AreResultsOf loaded.now) }
     ensures err { IfErr result (IsChoiceStop loaded.now) }
 {

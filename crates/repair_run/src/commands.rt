@@ -1,20 +1,22 @@
 //! The run that the arguments ask for.
 
 ghost use Rattle.std.specs.Prelude.{◌≡◌, ◌≤◌, ◌<◌, ◌^◌};
-ghost use Rattle.command_words.specs.Commands.{IsRepair};
+ghost use Rattle.command_words.specs.Commands.{HasNumbersInRange, IsRepair};
 ghost use Rattle.command_words.specs.declared.types.RepairWords.{RepairWords};
 ghost use Rattle.status_lines.specs.Runs.{run_over, IsUntouched};
 ghost use Rattle.repair_run.specs.Run.{IsOrMemory, OutputStands};
 ghost use Rattle.repair_run.specs.Commands.{IsRunOf};
-ghost use Rattle.repair_run.specs.Inside.Stops.{answer_to, IsInRange};
+ghost use Rattle.repair_run.specs.Inside.Stops.{answer_to};
 
 use crate::made::run_over_made;
 use crate::request::{Request, mode_if};
 use crate::run::run_over_files;
 use crate::writing::refuse;
-use crate::stubs::commands_have_numbers_in_range;
 use case_load::texts_have_one_case_or_first_fault;
-use command_words::{RepairWords, WordsFault, read_repair_words, words_have_one_reading};
+use command_words::{
+    RepairWords, WordsFault, commands_have_numbers_in_range, read_repair_words,
+    words_have_one_reading,
+};
 use el_logic::more_axioms_stay_incoherent;
 use io_edge::{Folder, Gate, Sink};
 use status_lines::Status;
@@ -31,7 +33,7 @@ fn run_of<R: Threads + Wait + Sync, F: Folder, S: Sink, G: Gate>(
     out: &mut S,
     gate: &G,
 ) -> Status
-    requires range { IsInRange command }
+    requires range { HasNumbersInRange command }
     requires bytes { limits.now.file_bytes < 2 ^ 31 }
     requires depth { limits.now.depth ≤ 256 }
     ensures run { let run = run_over (F.seen folder.old) (F.seen folder.new)

@@ -2,10 +2,11 @@
 
 ghost use Rattle.std.specs.Prelude.{◌≡◌, ◌≤◌, ◌<◌, ◌^◌, IfErr, IfOk};
 ghost use Rattle.io_edge.specs.Outside.{FaultsNeverFall};
+ghost use Rattle.command_words.specs.Commands.{IsFromOneTo};
 ghost use Rattle.repair_run.specs.Outcomes.{AreLoaded};
 ghost use Rattle.repair_run.specs.Made.{IsMadeCase, IsMadeFault};
 ghost use Rattle.repair_run.specs.Inside.Choices.{IsPlain};
-ghost use Rattle.repair_run.specs.Inside.Stops.{IsFileStop, IsLoadStop, IsNumberTo};
+ghost use Rattle.repair_run.specs.Inside.Stops.{IsFileStop, IsLoadStop};
 
 use crate::request::Request;
 use crate::stubs::runs_are_tellable;
@@ -47,7 +48,7 @@ pub fn loaded<F: Folder>(
 
 /// What the texts of a made case say, or the answer of a run over texts with a fault.
 pub fn made_case(alloc: Global, size: u32, limits: &Limits) -> Result<Loaded, Status>
-    requires size { IsNumberTo 10000 size }
+    requires size { IsFromOneTo 10000 size }
     requires depth { limits.now.depth ≤ 256 }
     ensures loaded { IfOk result (IsMadeCase size limits.now) }
     ensures plain { IfOk result IsPlain }

@@ -3,9 +3,10 @@
 ghost use Rattle.std.specs.Prelude.{◌≡◌, ◌≤◌, IfErr, OnOk};
 ghost use Rattle.io_edge.specs.Outside.{FolderSeen};
 ghost use Rattle.status_lines.specs.Runs.{run_over};
+ghost use Rattle.command_words.specs.Commands.{IsFromOneTo};
 ghost use Rattle.repair_run.specs.Run.{OutputStands};
 ghost use Rattle.repair_run.specs.Made.{IsMadeDone, IsMadeRun};
-ghost use Rattle.repair_run.specs.Inside.Stops.{IsMadeStop, IsNumberTo, IsQuiet};
+ghost use Rattle.repair_run.specs.Inside.Stops.{IsMadeStop, IsQuiet};
 
 use crate::choosing::{ChoiceStop, repaired};
 use crate::loading::made_case;
@@ -27,8 +28,8 @@ fn run<R: Threads + Wait + Sync, S: Sink, G: Gate>(
     out: &mut S,
     gate: &G,
 ) -> Result<(), Status>
-    requires size { IsNumberTo 10000 size }
-    requires workers { IsNumberTo 16 workers }
+    requires size { IsFromOneTo 10000 size }
+    requires workers { IsFromOneTo 16 workers }
     requires depth { limits.now.depth ≤ 256 }
     ensures done { (folder : FolderSeen) →
         let run = run_over folder folder (S.seen out.old) (S.seen out.new) in
@@ -65,8 +66,8 @@ pub fn run_over_made<R: Threads + Wait + Sync, S: Sink, G: Gate>(
     out: &mut S,
     gate: &G,
 ) -> Status
-    requires size { IsNumberTo 10000 size }
-    requires workers { IsNumberTo 16 workers }
+    requires size { IsFromOneTo 10000 size }
+    requires workers { IsFromOneTo 16 workers }
     requires depth { limits.now.depth ≤ 256 }
     ensures run { (folder : FolderSeen) →
         let run = run_over folder folder (S.seen out.old) (S.seen out.new) in

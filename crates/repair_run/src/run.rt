@@ -2,8 +2,9 @@
 
 ghost use Rattle.std.specs.Prelude.{◌≡◌, ◌≤◌, ◌<◌, ◌^◌, IfErr, OnOk};
 ghost use Rattle.status_lines.specs.Runs.{run_over};
+ghost use Rattle.command_words.specs.Commands.{IsFromOneTo};
 ghost use Rattle.repair_run.specs.Run.{FilesStand, IsDone, IsRun, OutputStands};
-ghost use Rattle.repair_run.specs.Inside.Stops.{IsNumberTo, IsQuiet, IsStop};
+ghost use Rattle.repair_run.specs.Inside.Stops.{IsQuiet, IsStop};
 
 use crate::choosing::repaired;
 use crate::loading::loaded;
@@ -27,7 +28,7 @@ fn run<R: Threads + Wait + Sync, F: Folder, S: Sink, G: Gate>(
     out: &mut S,
     gate: &G,
 ) -> Result<(), Status>
-    requires workers { IsNumberTo 16 workers }
+    requires workers { IsFromOneTo 16 workers }
     requires bytes { limits.now.file_bytes < 2 ^ 31 }
     requires depth { limits.now.depth ≤ 256 }
     ensures done { let run = run_over (F.seen folder.old) (F.seen folder.new)
@@ -66,7 +67,7 @@ pub fn run_over_files<R: Threads + Wait + Sync, F: Folder, S: Sink, G: Gate>(
     out: &mut S,
     gate: &G,
 ) -> Status
-    requires workers { IsNumberTo 16 workers }
+    requires workers { IsFromOneTo 16 workers }
     requires bytes { limits.now.file_bytes < 2 ^ 31 }
     requires depth { limits.now.depth ≤ 256 }
     ensures run { let run = run_over (F.seen folder.old) (F.seen folder.new)

@@ -4,7 +4,7 @@ use Rattle.io_edge.specs.Outside.{Files, FolderSeen, SinkSeen, PutsRose, HasGotF
 use Rattle.ofn_axiom.specs.declared.types.Mode.{Mode}
 use Rattle.ofn_axiom.specs.declared.types.Mode.TheVariants as mode
 
--- what is done with axioms outside the fragment: with the option they are left out
+-- what a run with the option `--el-part`, or without it, does with axioms outside the fragment
 abbrev pub mode_if : Bool → Mode
 mode_if true = mode.ElPart
 mode_if false = mode.Strict

@@ -11,8 +11,6 @@ use Rattle.case_load.specs.declared.fault.LoadFault.{LoadFault}
 use Rattle.case_load.specs.declared.fault.LoadFault.TheVariants as load
 use Rattle.case_load.specs.declared.texts.Loaded.{Loaded}
 use Rattle.command_words.specs.declared.types.FileNames.{FileNames}
-use Rattle.command_words.specs.declared.types.RepairWords.{RepairWords}
-use Rattle.command_words.specs.declared.types.RepairWords.TheVariants as repair
 use Rattle.command_words.specs.declared.types.WordsFault.{WordsFault}
 use Rattle.command_words.specs.declared.types.WordsFault.TheVariants as words
 use Rattle.status_lines.specs.declared.status.Status.{Status}
@@ -24,14 +22,6 @@ use Rattle.repair_run.specs.Run.{HoldsBoth, HoldsEvidence, IsPutShort, IsReadIn}
 use Rattle.repair_run.specs.Made.{IsMadeCase, IsMadeFault}
 use Rattle.repair_run.specs.Inside.Choices.{IsFound}
 use Rattle.el_logic.specs.declared.types.Part.{Part}
-
--- a number of a command is within its range
-abbrev pub IsNumberTo : ℕ → ℕ → Type 0
-IsNumberTo most number = (1 ≤ number) × (number ≤ most)
-
-abbrev pub IsInRange : RepairWords → Type 0
-IsInRange (repair.Files el_part workers names) = IsNumberTo 16 workers
-IsInRange (repair.Made size workers) = IsNumberTo 10000 size × IsNumberTo 16 workers
 
 -- the answer to words that are not read
 abbrev pub answer_to : WordsFault → Status
