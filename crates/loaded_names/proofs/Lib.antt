@@ -4,3 +4,4 @@ pub mod Tokens
 pub mod Mentions
 pub mod Starts
 pub mod Documents
+pub mod LeftOut
