@@ -1,5 +1,5 @@
 -- The names that a document holds, and what it leaves out.
-use Rattle.std.proofs.Common.{◌≡◌, ℕ, List, [], ◌∷◌, ◌++◌, All, refl, sym, subst, ◌∙◌}
+use Rattle.std.proofs.Common.{ℕ, List, [], ◌∷◌, ◌++◌, All, refl, sym, subst}
 use Rattle.std.specs.Prelude.{codes}
 use Rattle.std.proofs.lemmas.List.Elements.{All-nil, All-head, All-tail, All-push, All-from_recursion}
 use Rattle.byte_words.specs.Fronts.{without_mark}
@@ -11,15 +11,12 @@ use Rattle.ofn_term.specs.declared.item.Item.TheVariants as item
 use Rattle.ofn_term.specs.Texts.{HasItems}
 use Rattle.ofn_term.specs.Writing.{tokens_of}
 use Rattle.ofn_heads.specs.Names.{known}
-use Rattle.ofn_axiom.specs.declared.types.Direct.{Direct}
-use Rattle.ofn_axiom.specs.declared.types.Direct.TheVariants as direct
 use Rattle.ofn_axiom.specs.declared.types.Document.{Document}
 use Rattle.ofn_axiom.specs.declared.types.Mention.{Mention}
 use Rattle.ofn_axiom.specs.declared.types.Names.{Names}
 use Rattle.ofn_axiom.specs.declared.types.Mode.{Mode}
-use Rattle.ofn_axiom.specs.declared.types.Mode.TheVariants.{Strict, ElPart}
 use Rattle.ofn_axiom.specs.Numbers.{direct_mentions}
-use Rattle.ofn_axiom.specs.Taking.{State, with_direct}
+use Rattle.ofn_axiom.specs.Taking.{State}
 use Rattle.ofn_axiom.specs.Documents.{empty, IsReading}
 use Rattle.ofn_axiom.specs.DocumentText.{IsPrefix, equated, ArePrefixes, none, new, again, AreHeld, no_more, held_class, new_class, held_property, new_property, IsTaken, said, omitted, AreTaken, all_taken, one_taken, IsOntology, ontology, IsDocument, document, IsDocumentText}
 use Rattle.case_load.specs.Loads.{Inputs, IsLoaded}

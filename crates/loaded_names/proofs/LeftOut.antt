@@ -1,6 +1,6 @@
 -- What is left out of documents stands in the order of its places.
-use Rattle.std.proofs.Common.{◌≡◌, ◌≤◌, ◌<◌, ◌⊎◌, inl, inr, ◌&&◌, ◌||◌, ℕ, ◌+◌, ◌-◌, ◌^◌, Bool, true, false, cond, List, [], ◌∷◌, ◌++◌, length, map, take, drop, refl, sym, ap, subst, ◌∙◌, arith, append-nil, append_assoc, IsUtf8, IsCharBoundary, Option, Some, None, nat_le, nat_lt}
-use Rattle.std.specs.Prelude.{◌==◌, slice_range}
+use Rattle.std.proofs.Common.{◌≡◌, ◌≤◌, ◌<◌, inl, inr, ◌&&◌, ℕ, ◌+◌, ◌-◌, ◌^◌, Bool, true, cond, List, [], ◌∷◌, ◌++◌, length, map, take, refl, sym, ap, subst, ◌∙◌, arith, append-nil, append_assoc, IsUtf8, IsCharBoundary, Some, None, nat_le}
+use Rattle.std.specs.Prelude.{slice_range}
 use Rattle.std.proofs.lemmas.Bool.Decides.{nat_tests}
 use Rattle.std.proofs.lemmas.Str.{IsUtf8-take, is_utf8-from_IsUtf8, IsCharBoundary-start}
 use Rattle.byte_words.specs.Fronts.{without_mark}
@@ -14,26 +14,24 @@ use Rattle.ofn_lex.specs.declared.token.Token.{Token}
 use Rattle.ofn_lex.specs.Texts.{IsNext, IsTokenOf}
 use Rattle.ofn_term.specs.declared.item.Item.{Item}
 use Rattle.ofn_term.specs.Writing.{opening, closing, token_of, tokens_of}
-use Rattle.ofn_heads.specs.declared.outside.HeadId.{HeadId}
-use Rattle.ofn_heads.specs.Names.{piece, text_of}
+use Rattle.ofn_heads.specs.Names.{text_of}
 use Rattle.ofn_axiom.specs.declared.types.Direct.{Direct}
 use Rattle.ofn_axiom.specs.declared.types.Direct.TheVariants as direct
 use Rattle.ofn_axiom.specs.declared.types.Document.{Document}
 use Rattle.ofn_axiom.specs.declared.types.Names.{Names}
 use Rattle.ofn_axiom.specs.declared.types.Mode.{Mode}
 use Rattle.ofn_axiom.specs.declared.types.Omitted.{Omitted}
-use Rattle.ofn_axiom.specs.declared.types.SideOmitted.{SideOmitted}
 use Rattle.ofn_axiom.specs.Taking.{State, place_at, with_direct}
 use Rattle.ofn_axiom.specs.Documents.{empty, IsReading}
 use Rattle.ofn_axiom.proofs.ReadLaws.{mark_shorter}
-use Rattle.ofn_axiom.specs.DocumentText.{IsTaken, said, omitted, AreTaken, all_taken, one_taken, IsOntology, ontology, IsDocument, document, IsDocumentText}
+use Rattle.ofn_axiom.specs.DocumentText.{said, omitted, AreTaken, all_taken, one_taken, IsOntology, ontology, IsDocument, document, IsDocumentText}
 use Rattle.case_load.specs.Loads.{Inputs, IsLoaded}
 use Rattle.case_load.specs.declared.texts.Loaded.{Loaded}
 use Rattle.evidence_lines.specs.declared.types.SidedOmitted.{SidedOmitted}
 use Rattle.evidence_lines.specs.Omitted.{is_earlier, omitted_before}
 use Rattle.evidence_text.specs.EvidenceText.{of_side, omitted_list, InOrder}
 use Rattle.loaded_names.proofs.Written.{Written}
-use Rattle.loaded_names.proofs.Starts.{StandFrom, front_stands, more_stands, tokens_stand, IsStart, GoesOn, goes_on, first_and_rest, front_and_more, group_tokens, outside_starts}
+use Rattle.loaded_names.proofs.Starts.{StandFrom, front_stands, more_stands, tokens_stand, goes_on, first_and_rest, front_and_more, group_tokens, outside_starts}
 
 -- ---- what is left out of a text
 
