@@ -1,5 +1,5 @@
 -- What is loaded has evidence.
-use Rattle.std.proofs.Common.{◌≡◌, ◌⊎◌, inl, inr, ◌≤◌, ◌<◌, ℕ, List, [], ◌++◌, length, map, get_or, sym, ap, subst, ◌∙◌, arith, All}
+use Rattle.std.proofs.Common.{◌≡◌, ◌⊎◌, inl, inr, ◌≤◌, ◌<◌, ℕ, List, [], length, map, get_or, sym, ap, subst, ◌∙◌, arith, All}
 use Rattle.std.specs.Prelude.{slice_index, None}
 use Rattle.std.specs.Arc.{arc_value}
 use Rattle.std.proofs.lemmas.Bool.{cases_lt}
@@ -10,8 +10,6 @@ use Rattle.el_logic.specs.declared.types.Axiom.{Axiom}
 use Rattle.concept_store.specs.declared.types.NodeAxiom.{NodeAxiom}
 use Rattle.ofn_axiom.specs.declared.types.Mode.{Mode}
 use Rattle.ofn_axiom.specs.declared.types.Names.{Names}
-use Rattle.ofn_axiom.specs.declared.types.Omitted.{Omitted}
-use Rattle.el_logic.specs.declared.types.Side.TheVariants as side
 use Rattle.predicate_axioms.specs.RowAxioms.{row_axioms}
 use Rattle.rank_order.specs.Order.{IsRanking}
 use Rattle.sssom_rows.specs.declared.table.Row.{Row}
@@ -20,7 +18,7 @@ use Rattle.case_file.specs.Cases.{CaseView, IsCase, row_over, row_at, rows_over}
 use Rattle.case_load.specs.Loads.{Inputs, IsLoaded, rows_in}
 use Rattle.case_load.specs.declared.texts.Loaded.{Loaded}
 use Rattle.evidence_lines.specs.Omitted.{omitted_before}
-use Rattle.evidence_text.specs.EvidenceText.{InOrder, of_side, omitted_list}
+use Rattle.evidence_text.specs.EvidenceText.{InOrder, omitted_list}
 use Rattle.loaded_names.specs.Iris.{HaveIris}
 use Rattle.run_evidence.specs.Tellable.{IsEachOnce, IsTellable}
 
