@@ -1,5 +1,5 @@
 -- The names that a document holds, and what it leaves out.
-use Rattle.std.proofs.Common.{◌≡◌, ℕ, List, [], ◌∷◌, ◌++◌, All, refl, sym, subst, ◌∙◌}
+use Rattle.std.proofs.Common.{ℕ, List, [], ◌∷◌, ◌++◌, All, refl, sym, subst}
 use Rattle.std.specs.Prelude.{codes}
 use Rattle.std.proofs.lemmas.List.Elements.{All-nil, All-head, All-tail, All-push, All-from_recursion}
 use Rattle.byte_words.specs.Fronts.{without_mark}
@@ -11,15 +11,12 @@ use Rattle.ofn_term.specs.declared.item.Item.TheVariants as item
 use Rattle.ofn_term.specs.Texts.{HasItems}
 use Rattle.ofn_term.specs.Writing.{tokens_of}
 use Rattle.ofn_heads.specs.Names.{known}
-use Rattle.ofn_axiom.specs.declared.types.Direct.{Direct}
-use Rattle.ofn_axiom.specs.declared.types.Direct.TheVariants as direct
 use Rattle.ofn_axiom.specs.declared.types.Document.{Document}
 use Rattle.ofn_axiom.specs.declared.types.Mention.{Mention}
 use Rattle.ofn_axiom.specs.declared.types.Names.{Names}
 use Rattle.ofn_axiom.specs.declared.types.Mode.{Mode}
-use Rattle.ofn_axiom.specs.declared.types.Mode.TheVariants.{Strict, ElPart}
 use Rattle.ofn_axiom.specs.Numbers.{direct_mentions}
-use Rattle.ofn_axiom.specs.Taking.{State, with_direct}
+use Rattle.ofn_axiom.specs.Taking.{State}
 use Rattle.ofn_axiom.specs.Documents.{empty, IsReading}
 use Rattle.ofn_axiom.specs.DocumentText.{IsPrefix, equated, ArePrefixes, none, new, again, AreHeld, no_more, held_class, new_class, held_property, new_property, IsTaken, said, omitted, AreTaken, all_taken, one_taken, IsOntology, ontology, IsDocument, document, IsDocumentText}
 use Rattle.case_load.specs.Loads.{Inputs, IsLoaded}
@@ -88,34 +85,6 @@ module _ (written : Written) (text : List ℕ) where
       ontology_passes prefixes (prefixes_pass known prefixes before known_pass (front_items written text before (o ∷ []) are) declared) mode o state last
       (first_items written text o before [] are) old is
 
--- ---- what is left out
-
-strict_is_not_el : Strict ≡ ElPart → ⊥
-strict_is_not_el e = cc
-
-with_direct_leaves : (names : Names) (d : Direct) (read : Document) → (with_direct names d read).omitted ≡ read.omitted
-with_direct_leaves names (direct.Axiom a) read = refl
-with_direct_leaves names direct.Nothing read = refl
-with_direct_leaves names (direct.Class iri) read = refl
-with_direct_leaves names (direct.Property iri) read = refl
-
-module _ (text : List ℕ) (prefixes : Prefixes) where
-  taken_leaves : (mode : Mode) → mode ≡ Strict → (i : Item) (state next : State) → IsTaken text prefixes mode i state next → next.0.omitted ≡ state.0.omitted
-  taken_leaves mode strict _ _ _ (said i d state more is held) = with_direct_leaves more d state.0
-  taken_leaves mode strict _ _ _ (omitted i at outside state el is) = absurd (strict_is_not_el (sym strict ∙ el))
-
-  all_taken_leave : (mode : Mode) → mode ≡ Strict → (is : List Item) (state last : State) → AreTaken text prefixes mode is state last → last.0.omitted ≡ state.0.omitted
-  all_taken_leave mode strict _ _ _ (all_taken state) = refl
-  all_taken_leave mode strict _ _ _ (one_taken i is state next last first rest) =
-      all_taken_leave mode strict is next last rest ∙ taken_leaves mode strict i state next first
-
-ontology_leaves : (text : List ℕ) (prefixes : Prefixes) (mode : Mode) → mode ≡ Strict → (o : Item) (state last : State) → IsOntology text prefixes mode o state last → last.0.omitted ≡ state.0.omitted
-ontology_leaves text prefixes mode strict _ _ _ (ontology word iris directs start end state last at names few taken) =
-    all_taken_leave text prefixes mode strict directs state last taken
-
-document_leaves : (text : List ℕ) (mode : Mode) → mode ≡ Strict → (is : List Item) (state last : State) → IsDocument text mode is state last → last.0.omitted ≡ state.0.omitted
-document_leaves text mode strict _ _ _ (document before o prefixes state last declared is) = ontology_leaves text prefixes mode strict o state last is
-
 -- ---- what is loaded
 
 -- the laws of lower crates that this rests on
@@ -143,14 +112,3 @@ module _ (cited : Cited) where
       let right = reading_passes (without_mark texts.right) mode limits.depth read.left_names is.documents.names is.documents.right left read.right_read in
       let pass = subst NamesPass (sym is.made.names) right in
       record { classes = are_iris loaded.names.classes.names pass.classes; roles = are_iris loaded.names.roles.names pass.roles }
-
-pub strict_left : ((text : List ℕ) (mode : Mode) (depth : ℕ) (old new : Names) (document : Document)
-    → IsReading text mode depth old new document → IsDocumentText text mode depth old new document)
-    → (texts : Inputs) (limits : Limits) (loaded : Loaded) → IsLoaded texts Strict limits loaded → (loaded.omitted.left ≡ []) × (loaded.omitted.right ≡ [])
-strict_left says texts limits loaded is =
-    let read = is.read.documents_read in
-    let left = says (without_mark texts.left) Strict limits.depth _ read.left_names is.documents.left read.left_read in
-    let right = says (without_mark texts.right) Strict limits.depth read.left_names is.documents.names is.documents.right read.right_read in (
-      is.made.left_omitted ∙ document_leaves (without_mark texts.left) Strict refl left.items _ _ left.says,
-      is.made.right_omitted ∙ document_leaves (without_mark texts.right) Strict refl right.items _ _ right.says,
-    )

@@ -2,4 +2,6 @@ pub mod Bytes
 pub mod Written
 pub mod Tokens
 pub mod Mentions
+pub mod Starts
 pub mod Documents
+pub mod LeftOut

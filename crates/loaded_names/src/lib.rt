@@ -3,4 +3,4 @@
 
 mod laws;
 
-pub use laws::{loaded_names_are_iris, strict_runs_leave_nothing_out};
+pub use laws::{loaded_names_are_iris, omitted_stand_in_order};

@@ -1,5 +1,5 @@
--- What is loaded in the strict mode has evidence.
-use Rattle.std.proofs.Common.{◌≡◌, ◌⊎◌, inl, inr, ◌≤◌, ◌<◌, ℕ, List, [], ◌++◌, length, map, get_or, sym, ap, subst, ◌∙◌, arith, All}
+-- What is loaded has evidence.
+use Rattle.std.proofs.Common.{◌≡◌, ◌⊎◌, inl, inr, ◌≤◌, ◌<◌, ℕ, List, [], length, map, get_or, sym, ap, subst, ◌∙◌, arith, All}
 use Rattle.std.specs.Prelude.{slice_index, None}
 use Rattle.std.specs.Arc.{arc_value}
 use Rattle.std.proofs.lemmas.Bool.{cases_lt}
@@ -8,10 +8,8 @@ use Rattle.std.proofs.lemmas.List.Elements.{All-map, All-get_or}
 use Rattle.text_names.specs.declared.limits.Limits.{Limits}
 use Rattle.el_logic.specs.declared.types.Axiom.{Axiom}
 use Rattle.concept_store.specs.declared.types.NodeAxiom.{NodeAxiom}
-use Rattle.ofn_axiom.specs.declared.types.Mode.TheVariants.{Strict}
+use Rattle.ofn_axiom.specs.declared.types.Mode.{Mode}
 use Rattle.ofn_axiom.specs.declared.types.Names.{Names}
-use Rattle.ofn_axiom.specs.declared.types.Omitted.{Omitted}
-use Rattle.el_logic.specs.declared.types.Side.TheVariants as side
 use Rattle.predicate_axioms.specs.RowAxioms.{row_axioms}
 use Rattle.rank_order.specs.Order.{IsRanking}
 use Rattle.sssom_rows.specs.declared.table.Row.{Row}
@@ -20,7 +18,7 @@ use Rattle.case_file.specs.Cases.{CaseView, IsCase, row_over, row_at, rows_over}
 use Rattle.case_load.specs.Loads.{Inputs, IsLoaded, rows_in}
 use Rattle.case_load.specs.declared.texts.Loaded.{Loaded}
 use Rattle.evidence_lines.specs.Omitted.{omitted_before}
-use Rattle.evidence_text.specs.EvidenceText.{InOrder, of_side, omitted_list}
+use Rattle.evidence_text.specs.EvidenceText.{InOrder, omitted_list}
 use Rattle.loaded_names.specs.Iris.{HaveIris}
 use Rattle.run_evidence.specs.Tellable.{IsEachOnce, IsTellable}
 
@@ -30,9 +28,6 @@ pub record Cited : Type 0 where
       → slice_index rows one ≡ slice_index rows other → one ≡ other
   pub count : (confidences rows : List ℕ) → IsRanking confidences rows → length rows ≡ length confidences
   pub few : (classes roles : List (List ℕ)) (row : Row) → length (row_axioms classes roles row) ≤ 2
-  pub iris : (texts : Inputs) (limits : Limits) (loaded : Loaded) → IsLoaded texts Strict limits loaded → HaveIris loaded.names
-  pub no_left : (texts : Inputs) (limits : Limits) (loaded : Loaded) → IsLoaded texts Strict limits loaded → loaded.omitted.left ≡ []
-  pub no_right : (texts : Inputs) (limits : Limits) (loaded : Loaded) → IsLoaded texts Strict limits loaded → loaded.omitted.right ≡ []
 
 -- each of some lists is short, and so is the empty one in place of others
 short_at : (rows : List (List Axiom)) (index : ℕ) → All (λ axioms. length axioms ≤ 2) rows → length (row_at rows index) ≤ 2
@@ -59,7 +54,7 @@ each_once case is once = record {
   within = λ rank inside. let low = is.given.indexes rank 0 inside in omega (arith, is.given.ranks, low);
 }
 
-module _ (cited : Cited) (texts : Inputs) (limits : Limits) (loaded : Loaded) (is : IsLoaded texts Strict limits loaded) where
+module _ (cited : Cited) (texts : Inputs) (mode : Mode) (limits : Limits) (loaded : Loaded) (is : IsLoaded texts mode limits loaded) where
   abbrev case : CaseView
   case = arc_value loaded.case
 
@@ -67,14 +62,8 @@ module _ (cited : Cited) (texts : Inputs) (limits : Limits) (loaded : Loaded) (i
   short_rows = All-map (λ (axioms : List Axiom). length axioms ≤ 2) (row_axioms is.documents.names.classes.names is.documents.names.roles.names) is.table.rows
       (λ k d inside. cited.few is.documents.names.classes.names is.documents.names.roles.names (get_or is.table.rows k d))
 
-  nothing_omitted : InOrder omitted_before None (omitted_list loaded.omitted)
-  nothing_omitted =
-      let left = ap (λ (l : List Omitted). map (of_side side.Left) l ++ map (of_side side.Right) loaded.omitted.right) (cited.no_left texts limits loaded is) in
-      let right = ap (λ (l : List Omitted). map (of_side side.Right) l) (cited.no_right texts limits loaded is) in
-      subst (InOrder omitted_before None) (sym (left ∙ right)) tt
-
-  pub tellable : IsCase case → IsTellable loaded
-  tellable built = record {
+  pub tellable : HaveIris loaded.names → InOrder omitted_before None (omitted_list loaded.omitted) → IsCase case → IsTellable loaded
+  tellable have in_order built = record {
     classes = ap (λ (c : CaseView). c.classes) is.made.case ∙ ap (λ (n : List (List ℕ)). length n) (sym (ap (λ (n : Names). n.classes.names) is.made.names));
     properties = ap (λ (c : CaseView). c.properties) is.made.case ∙ ap (λ (n : List (List ℕ)). length n) (sym (ap (λ (n : Names). n.roles.names) is.made.names));
     rows = ap (λ (c : CaseView). length c.order) is.made.case ∙ cited.count _ is.made.order is.made.ranking ∙ length-map is.table.rows (λ (row : Row). row.confidence)
@@ -82,6 +71,6 @@ module _ (cited : Cited) (texts : Inputs) (limits : Limits) (loaded : Loaded) (i
     order = each_once case built (subst (λ (order : List ℕ). (one other : ℕ) → one < length order → other < length order → slice_index order one ≡ slice_index order other → one ≡ other)
         (sym (ap (λ (c : CaseView). c.order) is.made.case)) (λ one other. cited.once _ is.made.order one other is.made.ranking));
     few = subst (λ (c : CaseView). All (λ axioms. length axioms ≤ 2) c.over) (sym is.made.case) (short_over (rows_in is.documents.names is.table) is.made.order short_rows);
-    iris = cited.iris texts limits loaded is;
-    omitted = nothing_omitted;
+    iris = have;
+    omitted = in_order;
   }

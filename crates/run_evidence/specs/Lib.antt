@@ -1,2 +1,3 @@
 pub mod Tellable
+pub mod Journals
 pub mod Inside

@@ -7,5 +7,5 @@ mod lists;
 mod rows;
 mod whole;
 
-pub use laws::strict_runs_are_tellable;
+pub use laws::runs_are_tellable;
 pub use whole::{evidence_against, evidence_of};

@@ -9,6 +9,7 @@ ghost use Rattle.repaired_table.specs.Repaired.{repaired_text};
 ghost use Rattle.evidence_text.specs.EvidenceText.{HasText};
 ghost use Rattle.valid_evidence.specs.Shown.{rows_ranked};
 ghost use Rattle.valid_evidence.specs.Valid.{HasLists, IsValidEvidence, IsValidRefusal};
+ghost use Rattle.run_evidence.specs.Journals.{IsJournalOf};
 ghost use Rattle.run_evidence.specs.Tellable.{IsTellable};
 ghost use Rattle.run_evidence.specs.Inside.Named.{AreNodesOver, AreRolesOver};
 ghost use Rattle.run_evidence.specs.Inside.DecidedBooks.{IsDecidedBook};
@@ -105,6 +106,7 @@ pub fn evidence_of(alloc: Global, loaded: &Loaded, book: &Book) -> Result<Eviden
     ensures valid { let order = (arc_value loaded.now.case).order in
         let out = repaired_text loaded.now.table (rows_ranked order (kept_of book.now.marks)) in
         IfOk result (IsValidEvidence loaded.now out) }
+    ensures journal { IfOk result (IsJournalOf book.now.entries) }
     ensures text { IfOk result HasText }
 {
     names_are_held(loaded);

@@ -1,3 +1,5 @@
+use Rattle.std.proofs.Common.{sym, subst, ◌∙◌}
+use Rattle.run_evidence.specs.Journals.{HasEntries}
 use Rattle.run_evidence.proofs.Bodies.{of_book_valid, of_book_text}
 use Rattle.run_evidence.proofs.whole.evidence_of.Goals as goal
 
@@ -13,3 +15,7 @@ returns-clause-text c =
     c.table-table.result.now c.table-table.ensures c.in_ok-model.model c.in_ok-model.ensures.model c.in_ok-journal.journal c.journal-entries.result.now.entries c.in_ok-journal.ensures c.journal-entries.ensures.entries
     c.in_ok-removed.removed c.in_ok-removed.ensures c.in_ok-evidence.evidence c.in_ok-evidence.ensures.kind c.in_ok-evidence.ensures.body c.in_ok-evidence.ensures.lists
     c.names_are_held.ensures.classes c.names_are_held.ensures.properties c.in_ok-model.ensures.ordered
+
+pub returns-clause-journal : goal.returns-clause-journal
+returns-clause-journal c =
+    subst (HasEntries c.args.book.now.entries) (sym c.in_ok-evidence.ensures.body) (c.in_ok-journal.ensures ∙ c.journal-entries.ensures.entries)
