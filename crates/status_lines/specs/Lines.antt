@@ -115,11 +115,17 @@ line_of speaker text = speaker_text speaker ++ (codes ": " ++ (text ++ codes "\n
 abbrev pub load_line : Speaker → LoadFault → List ℕ
 load_line speaker fault = line_of speaker (load_text fault)
 
+-- the line of words that are no command
+abbrev pub usage_line : List ℕ
+usage_line =
+    codes "alod: usage: alod [--workers N] [--el-part] LEFT RIGHT MAP OUT EVIDENCE, or "
+    ++ codes "alod --made N [--workers N]\n"
+
 -- the line of a refusal; a run that is done prints its summary in place of it, and a fault of the
 -- output no line
 abbrev pub refusal_line : Status → List ℕ
 refusal_line Status.Done = []
-refusal_line Status.Words = codes "alod: usage: alod LEFT RIGHT MAP OUT EVIDENCE\n"
+refusal_line Status.Words = usage_line
 refusal_line (Status.Syntax side place kind) =
     load_line Speaker.Alod (LoadFault.Syntax side place kind)
 refusal_line (Status.Table fault) = load_line Speaker.Alod (LoadFault.Table fault)

@@ -1,7 +1,7 @@
 //! The lines that a run prints.
 
 ghost use Rattle.std.specs.Prelude.{◌≡◌, ◌≤◌, ◌++◌, codes, IfOk, string_bytes};
-ghost use Rattle.status_lines.specs.Lines.{fault_text, limit_text, load_line, place_text, refusal_line, speaker_text, summary_text};
+ghost use Rattle.status_lines.specs.Lines.{fault_text, limit_text, load_line, place_text, refusal_line, speaker_text, summary_text, usage_line};
 
 use crate::kinds::{kind_text, part_text, role_text, side_text};
 use crate::{Speaker, Status};
@@ -12,6 +12,14 @@ use ofn_axiom::{DocKind, HeadId};
 use sssom_rows::TableFault;
 use std::alloc::{AllocError, Global};
 use text_names::{Place, Text};
+
+/// The line of words that are no command.
+pub fn usage_line() -> &'static [u8]
+    ensures { result.now ≡ usage_line }
+{
+    b"alod: usage: alod [--workers N] [--el-part] LEFT RIGHT MAP OUT EVIDENCE, or alod --made N \
+[--workers N]\n"
+}
 
 /// The line of a run that is done.
 pub fn summary(

@@ -6,7 +6,7 @@ ghost use Rattle.status_lines.specs.Lines.{load_line, refusal_line};
 
 use crate::lines::{
     cannot_read, cannot_write, incoherent_line, limit_line, out_of_memory, profile_line,
-    syntax_line, table_line,
+    syntax_line, table_line, usage_line,
 };
 use crate::{Speaker, Status};
 use case_load::LoadFault;
@@ -71,7 +71,7 @@ pub fn put_refusal<S: Sink>(alloc: Global, out: &mut S, status: &Status) -> PutA
     let speaker = Speaker::Alod;
     match status {
         Status::Done => out.put(alloc, b""),
-        Status::Words => out.put(alloc, b"alod: usage: alod LEFT RIGHT MAP OUT EVIDENCE\n"),
+        Status::Words => out.put(alloc, usage_line()),
         Status::Syntax { side, place, kind } => {
             let (side, place, kind) = (*side, *place, *kind);
             put_load_fault(alloc, out, speaker, LoadFault::Syntax { side, place, kind })
