@@ -68,8 +68,8 @@ def inserted(document, axioms):
 def spoil(folder, spoiled):
     """The same case with twice the rows: after each, one that leaves a class empty by the ontologies alone.
 
-    It equates one of two hundred upper classes of LEFT with a new class of RIGHT. LEFT puts all its classes below `:here`, which
-    is disjoint with `:there`, and RIGHT puts the new classes below `:there`.
+    It equates one of two hundred upper classes of LEFT with a new class of RIGHT. LEFT puts all its classes below
+    `:here`, which is disjoint with `:there`, and RIGHT puts the new classes below `:there`.
     """
     spoiled.mkdir()
     left, right, table = ((folder / file).read_text() for file in FILES[:3])
