@@ -2,7 +2,9 @@
 
 use crate::setting::{APART, BELOW, HEADER, ROWS, Ran, run};
 use std::alloc::Global;
+use std::sync::Wait;
 use std::test::Fail;
+use std::thread::Threads;
 
 // LEFT, RIGHT, the rows, the status and the first lines of EVIDENCE.
 type Case = (&'static str, &'static str, &'static str, u8, &'static str);
@@ -42,14 +44,14 @@ class <http://l/B>\nsome 0 3\nroles 1\nproperty <http://l/r>\nsteps ",
 ];
 
 // Whether a run left this evidence.
-fn leaves(alloc: Global, case: &Case) -> Result<bool, Fail> {
+fn leaves<R: Threads + Wait + Sync>(rt: &R, alloc: Global, case: &Case) -> Result<bool, Fail> {
     let (left, right, rows, number, evidence) = *case;
     let map = format!(in alloc; "{HEADER}{rows}")?;
     let Ran {
         number: found,
         evidence: text,
         ..
-    } = run(alloc, left, right, map.as_str())?;
+    } = run(rt, alloc, left, right, map.as_str())?;
     let begins = text.starts_with(evidence.as_bytes());
     Ok(found == number && begins && text.ends_with(b"\nend\n"))
 }
@@ -58,7 +60,7 @@ fn leaves(alloc: Global, case: &Case) -> Result<bool, Fail> {
 fn leaves_evidence(rt: HostRuntime) -> Result<(), Fail> {
     for case in &CASES {
         let (left, _, rows, _, _) = *case;
-        assert!(rt; leaves(rt.alloc(), case)?, "{left} {rows}");
+        assert!(rt; leaves(&rt, rt.alloc(), case)?, "{left} {rows}");
     }
     Ok(())
 }

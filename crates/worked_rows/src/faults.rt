@@ -1,45 +1,9 @@
-//! Words that are refused, and calls that fail.
+//! Calls that fail.
 
-use crate::setting::{APART, BELOW, HEADER, ROWS, TWO_OF_THREE, files, run_over};
+use crate::setting::{BELOW, HEADER, KEPT, NAMES, TWO_OF_THREE, files, run_over, worked};
 use io_edge::{MemFolder, MemSink};
-use std::alloc::Global;
 use std::test::Fail;
 use text_names::Limits;
-
-const NAMES: [&str; 5] = ["LEFT", "RIGHT", "MAP", "OUT", "EVIDENCE"];
-
-// The files of the first worked case.
-fn worked(alloc: Global) -> Result<MemFolder, Fail> {
-    let map = format!(in alloc; "{HEADER}{ROWS}")?;
-    files(alloc, APART.as_bytes(), BELOW.as_bytes(), map.as_bytes())
-}
-
-#[test]
-fn refuses_wrong_words(rt: HostRuntime) -> Result<(), Fail> {
-    let alloc = rt.alloc();
-    let cases: [&[&str]; 9] = [
-        &[],
-        &["LEFT", "RIGHT", "MAP", "OUT"],
-        &["LEFT", "RIGHT", "MAP", "OUT", "EVIDENCE", "MORE"],
-        &["LEFT", "RIGHT", "", "OUT", "EVIDENCE"],
-        &["-h", "RIGHT", "MAP", "OUT", "EVIDENCE"],
-        &["LEFT", "RIGHT", "MAP", "OUT", "-"],
-        &["LEFT", "RIGHT", "MAP", "MAP", "EVIDENCE"],
-        &["LEFT", "RIGHT", "MAP", "OUT", "LEFT"],
-        &["LEFT", "RIGHT", "MAP", "OUT", "OUT"],
-    ];
-    let usage = b"alod: usage: alod LEFT RIGHT MAP OUT EVIDENCE\n".as_slice();
-    for words in cases {
-        let mut folder = worked(alloc)?;
-        let mut sink = MemSink::new(alloc);
-        let limits = Limits::standard();
-        let ran = run_over(alloc, words, &limits, &mut folder, &mut sink)?;
-        assert!(rt; ran.number == 2);
-        assert!(rt; ran.line.as_slice() == usage);
-        assert!(rt; ran.out.is_empty() && ran.evidence.is_empty());
-    }
-    Ok(())
-}
 
 #[test]
 fn tells_of_failing_calls(rt: HostRuntime) -> Result<(), Fail> {
@@ -57,7 +21,7 @@ fn tells_of_failing_calls(rt: HostRuntime) -> Result<(), Fail> {
         folder.fail(call)?;
         let mut sink = MemSink::new(alloc);
         let limits = Limits::standard();
-        let ran = run_over(alloc, &NAMES, &limits, &mut folder, &mut sink)?;
+        let ran = run_over(&rt, alloc, &NAMES, &limits, &mut folder, &mut sink)?;
         assert!(rt; ran.number == number, "{call}");
         assert!(rt; ran.line.as_slice() == line.as_bytes(), "{call}");
         assert!(rt; ran.out.is_empty() == (number != 0), "{call}");
@@ -72,7 +36,7 @@ fn tells_of_missing_files(rt: HostRuntime) -> Result<(), Fail> {
     let mut folder = MemFolder::new(alloc);
     let mut sink = MemSink::new(alloc);
     let limits = Limits::standard();
-    let ran = run_over(alloc, &NAMES, &limits, &mut folder, &mut sink)?;
+    let ran = run_over(&rt, alloc, &NAMES, &limits, &mut folder, &mut sink)?;
     assert!(rt; ran.number == 7);
     assert!(rt; ran.line.as_slice() == b"alod: cannot read LEFT\n".as_slice());
     Ok(())
@@ -85,9 +49,8 @@ fn writes_before_it_tells(rt: HostRuntime) -> Result<(), Fail> {
     let mut sink = MemSink::new(alloc);
     sink.fail(1)?;
     let limits = Limits::standard();
-    let ran = run_over(alloc, &NAMES, &limits, &mut folder, &mut sink)?;
-    let kept = "l:A\tskos:exactMatch\tr:X\t0.9\nl:B\tskos:broadMatch\tr:Y\t0.7\n";
-    let wanted = format!(in alloc; "{HEADER}{kept}")?;
+    let ran = run_over(&rt, alloc, &NAMES, &limits, &mut folder, &mut sink)?;
+    let wanted = format!(in alloc; "{HEADER}{KEPT}")?;
     assert!(rt; ran.number == 8);
     assert!(rt; ran.line.is_empty());
     assert!(rt; ran.out.as_slice() == wanted.as_bytes());
@@ -104,7 +67,7 @@ fn answers_without_its_line(rt: HostRuntime) -> Result<(), Fail> {
     let mut sink = MemSink::new(alloc);
     sink.fail(1)?;
     let limits = Limits::standard();
-    let ran = run_over(alloc, &NAMES, &limits, &mut folder, &mut sink)?;
+    let ran = run_over(&rt, alloc, &NAMES, &limits, &mut folder, &mut sink)?;
     assert!(rt; ran.number == 3);
     assert!(rt; ran.line.is_empty());
     assert!(rt; ran.out.is_empty());

@@ -15,3 +15,7 @@ mod repairs;
 mod setting;
 #[cfg(test)]
 mod tables;
+#[cfg(test)]
+mod together;
+#[cfg(test)]
+mod words;

@@ -83,7 +83,7 @@ fn keeps_to_limits(rt: HostRuntime) -> Result<(), Fail> {
         let limits = limits_of(kind, most);
         let map = format!(in alloc; "{HEADER}{rows}")?;
         let (left, right) = (left.as_bytes(), right.as_bytes());
-        let ran = run_within(alloc, left, right, map.as_bytes(), &limits)?;
+        let ran = run_within(&rt, alloc, left, right, map.as_bytes(), &limits)?;
         assert!(rt; ran.number == number, "{kind} {most}");
         assert!(rt; ran.line.as_slice() == line.as_bytes(), "{kind} {most}");
     }

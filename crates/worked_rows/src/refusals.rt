@@ -109,7 +109,7 @@ const CASES: [(&str, &str, u8, &str); 17] = [
 fn refuses_ontologies(rt: HostRuntime) -> Result<(), Fail> {
     let alloc = rt.alloc();
     for (left, right, number, line) in CASES {
-        let ran = run(alloc, left, right, HEADER)?;
+        let ran = run(&rt, alloc, left, right, HEADER)?;
         assert!(rt; ran.number == number, "{left} {right}");
         assert!(rt; ran.line.as_slice() == line.as_bytes(), "{left} {right}");
         assert!(rt; ran.out.is_empty(), "{left} {right}");
@@ -121,6 +121,7 @@ fn refuses_ontologies(rt: HostRuntime) -> Result<(), Fail> {
 fn refuses_what_is_no_text(rt: HostRuntime) -> Result<(), Fail> {
     let limits = Limits::standard();
     let ran = run_within(
+        &rt,
         rt.alloc(),
         &[255],
         b"Ontology()",

@@ -154,7 +154,7 @@ fn repairs_the_worked_tables(rt: HostRuntime) -> Result<(), Fail> {
         let map = format!(in alloc; "{HEADER}{rows}")?;
         let wanted = format!(in alloc; "{HEADER}{kept}")?;
         let line = format!(in alloc; "alod: {summary} omitted 0\n")?;
-        let ran = run(alloc, left, right, map.as_str())?;
+        let ran = run(&rt, alloc, left, right, map.as_str())?;
         assert!(rt; ran.number == 0, "{name}");
         assert!(rt; ran.line.as_slice() == line.as_bytes(), "{name}");
         assert!(rt; ran.out.as_slice() == wanted.as_bytes(), "{name}");
@@ -219,7 +219,7 @@ l:B\tskos:broadMatch\tr:Y\t0.7\n",
 fn repairs_tables_of_other_headers(rt: HostRuntime) -> Result<(), Fail> {
     let alloc = rt.alloc();
     for (name, left, right, map, wanted, line) in TABLES {
-        let ran = run(alloc, left, right, map)?;
+        let ran = run(&rt, alloc, left, right, map)?;
         assert!(rt; ran.number == 0, "{name}");
         assert!(rt; ran.line.as_slice() == line.as_bytes(), "{name}");
         assert!(rt; ran.out.as_slice() == wanted.as_bytes(), "{name}");

@@ -45,7 +45,7 @@ l:A\tskos:exactMatch\tl:A\t0.5\nl:A\tskos:exactMatch\tl:A\t2\n",
 fn refuses_tables(rt: HostRuntime) -> Result<(), Fail> {
     let alloc = rt.alloc();
     for (map, line) in CASES {
-        let ran = run(alloc, APART, X_ALONE, map)?;
+        let ran = run(&rt, alloc, APART, X_ALONE, map)?;
         assert!(rt; ran.number == 3, "{map}");
         assert!(rt; ran.line.as_slice() == line.as_bytes(), "{map}");
         assert!(rt; ran.out.is_empty(), "{map}");
@@ -73,7 +73,7 @@ fn reads_confidences(rt: HostRuntime) -> Result<(), Fail> {
     let refused = "alod: MAP: row 1: confidence\n";
     for (confidence, reads) in CONFIDENCES {
         let map = format!(in alloc; "{HEADER}r:X\tskos:broadMatch\tl:A\t{confidence}\n")?;
-        let ran = run(alloc, APART, X_ALONE, map.as_str())?;
+        let ran = run(&rt, alloc, APART, X_ALONE, map.as_str())?;
         let (number, line) = if reads { (0, kept) } else { (3, refused) };
         assert!(rt; ran.number == number, "{confidence}");
         assert!(rt; ran.line.as_slice() == line.as_bytes(), "{confidence}");
