@@ -95,5 +95,5 @@ module _ (loaded : Loaded) (ranks : List ℕ) (rows : KeptRows) (choice : IsChoi
       ∙ ap (λ (n : ℕ). summary_text (length loaded.table.rows) (kept_count (keep_in loaded ranks)) loaded.inert n) left
 
 -- a file within the limits is short
-pub short_file : (most : ℕ) {bytes : List ℕ} → most < 2 ^ 31 → length bytes ≤ most → length bytes < 2 ^ 31
+pub short_file : (most : ℕ) {bytes : List ℕ} → most < 2 ^ 31 → length bytes ≤ most → length bytes < 2 ^ 63
 short_file most few within = omega (arith, few, within)

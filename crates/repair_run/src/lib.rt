@@ -9,7 +9,6 @@ mod loading;
 mod made;
 mod request;
 mod run;
-mod stubs;
 mod writing;
 
 pub use commands::repair;

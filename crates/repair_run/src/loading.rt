@@ -9,12 +9,12 @@ ghost use Rattle.repair_run.specs.Inside.Choices.{IsPlain};
 ghost use Rattle.repair_run.specs.Inside.Stops.{IsFileStop, IsLoadStop};
 
 use crate::request::Request;
-use crate::stubs::runs_are_tellable;
 use case_load::{Loaded, assemble, load};
 use case_maker::{made_texts_are_short, make};
 use io_edge::Folder;
 use ofn_axiom::Mode;
 use rank_order::ranking_has_each_row_once;
+use run_evidence::runs_are_tellable;
 use status_lines::{Status, status_of};
 use std::alloc::Global;
 use text_names::Limits;
