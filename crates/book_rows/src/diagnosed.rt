@@ -2,7 +2,7 @@
 
 use crate::setting::base;
 use accuse_core::{Entry, Event, Reply};
-use diagnosis::{diagnose, kept_rows};
+use diagnosis::{diagnose_alone, kept_rows};
 use std::alloc::Global;
 use std::sync::Arc;
 use std::test::Fail;
@@ -83,7 +83,7 @@ fn keeps(alloc: Global, case: Case) -> Result<bool, Fail> {
     let (left, right, rows, keep) = case;
     let base = base(alloc, left, right, rows)?;
     let case = Arc::try_clone(base.case())?;
-    let book = diagnose(alloc, case, base)?;
+    let book = diagnose_alone(alloc, case, base)?;
     let found = kept_rows(alloc, &book)?;
     let kept = keep.iter().filter(|keeps| **keeps).count();
     Ok(found.keep.as_slice() == keep && found.kept == kept && found.removed == keep.len() - kept)
