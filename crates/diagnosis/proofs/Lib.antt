@@ -2,3 +2,4 @@ pub mod RowLaws
 pub mod TurnLaws
 pub mod JoinLaws
 pub mod ShareLaws
+pub mod PartLaws

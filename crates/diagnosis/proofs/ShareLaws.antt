@@ -20,6 +20,7 @@ use Rattle.spec_workers.specs.Turns.{entry, IsTake, AreTaken, IsAtFront, IsEnd, 
 use Rattle.spec_workers.proofs.StageLemmas.{verdicts_of_both}
 use Rattle.diagnosis.specs.declared.parts.Part.{Part}
 use Rattle.diagnosis.specs.Shares.{others_of, IsTakenBy, IsTakenByAnother, IsShared}
+use Rattle.diagnosis.proofs.JoinLaws.{all_cons}
 use Rattle.diagnosis.specs.Inside.Parts.{HasSeen, HasWorked, HasJoined, drawn_by}
 
 abbrev by : Entry → ℕ
@@ -40,11 +41,6 @@ later first rest x there = Contains-append_right (first ∷ []) rest x there
 only_one : {X : Type 0} (first x : X) → Contains (first ∷ []) x → first ≡ x
 only_one first x (zero, within, at) = at
 only_one first x (suc k, within, at) = absurd (omega arith)
-
--- a fact of the first element and of the rest
-all_cons : {X : Type 0} (P : X → Type 0) (first : X) (rest : List X) → P first → All P rest → All P (first ∷ rest)
-all_cons P first rest one more zero d within = one
-all_cons P first rest one more (suc k) d within = more k d (omega arith)
 
 -- the other workers' entries in two lists
 others_of_both : (one other : List Entry) → others_of (one ++ other) ≡ others_of one ++ others_of other
