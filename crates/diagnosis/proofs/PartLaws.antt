@@ -60,7 +60,7 @@ module _ (lock : BookLock) (word : DrawWord) where
           subst (λ (d : List ℕ). IsWork n (number part.seat) budget d (own_of (number part.seat) (seen worked.seat)) worked.end) (sym drawn_is)
           (subst (λ (t : List Entry). IsWork n (number part.seat) budget draws t worked.end) (sym own_is) work) in
       record {
-        back = (is, omega (arith, one, seat), omega (arith, one, pass));
+        back = (is, (omega (arith, one, seat), omega (arith, one, pass)));
         other = λ none. fresh.other (sym seat.0 ∙ none);
         work = subst (λ (k : ℕ). IsWork n k budget (drawn worked.pass) (own_of k (seen worked.seat)) worked.end) (sym seat.0) here;
       }
