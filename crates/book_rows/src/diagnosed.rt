@@ -1,11 +1,16 @@
 //! Which rows are kept.
 
+ghost use Rattle.std.specs.Prelude.{◌≤◌};
+
 use crate::setting::base;
 use accuse_core::{Entry, Event, Reply};
-use diagnosis::{diagnose, kept_rows};
+use commit_book::Book;
+use diagnosis::{diagnose, diagnose_alone, kept_rows};
+use io_edge::OpenGate;
 use std::alloc::Global;
-use std::sync::Arc;
+use std::sync::{Arc, Wait};
 use std::test::Fail;
+use std::thread::Threads;
 
 const APART: &str = "DisjointClasses(:A :B)";
 
@@ -78,22 +83,54 @@ r:Y\tskos:broadMatch\tl:C\t0.7
     ),
 ];
 
-// Whether just these rows of a case are kept.
-fn keeps(alloc: Global, case: Case) -> Result<bool, Fail> {
+// Whether just these rows of a case are kept in a book.
+fn keeps(alloc: Global, book: &Book, keep: &[bool]) -> Result<bool, Fail> {
+    let found = kept_rows(alloc, book)?;
+    let kept = keep.iter().filter(|keeps| **keeps).count();
+    Ok(found.keep.as_slice() == keep && found.kept == kept && found.removed == keep.len() - kept)
+}
+
+// Whether just these rows of a case are kept by one worker alone.
+fn keeps_alone(alloc: Global, case: Case) -> Result<bool, Fail> {
     let (left, right, rows, keep) = case;
     let base = base(alloc, left, right, rows)?;
     let case = Arc::try_clone(base.case())?;
-    let book = diagnose(alloc, case, base)?;
-    let found = kept_rows(alloc, &book)?;
-    let kept = keep.iter().filter(|keeps| **keeps).count();
-    Ok(found.keep.as_slice() == keep && found.kept == kept && found.removed == keep.len() - kept)
+    let book = diagnose_alone(alloc, case, base)?;
+    keeps(alloc, &book, keep)
+}
+
+// Whether just these rows of a case are kept by this number of workers side by side.
+fn keeps_shared<R: Threads + Wait + Sync>(
+    rt: &R,
+    alloc: Global,
+    case: Case,
+    workers: u32,
+) -> Result<bool, Fail>
+    requires { (1 ≤ workers) × (workers ≤ 16) }
+{
+    let (left, right, rows, keep) = case;
+    let base = base(alloc, left, right, rows)?;
+    let case = Arc::try_clone(base.case())?;
+    let book = diagnose(rt, alloc, case, base, workers, &OpenGate)?;
+    keeps(alloc, &book, keep)
 }
 
 #[test]
 fn rows_of_cases(rt: HostRuntime) -> Result<(), Fail> {
     for case in CASES {
         let (_, _, rows, _) = case;
-        assert!(rt; keeps(rt.alloc(), case)?, "{rows}");
+        assert!(rt; keeps_alone(rt.alloc(), case)?, "{rows}");
+    }
+    Ok(())
+}
+
+#[test]
+fn rows_of_cases_by_workers(rt: HostRuntime) -> Result<(), Fail> {
+    for case in CASES {
+        let (_, _, rows, _) = case;
+        for workers in [1, 2, 16] {
+            assert!(rt; keeps_shared(&rt, rt.alloc(), case, workers)?, "{rows} {workers}");
+        }
     }
     Ok(())
 }

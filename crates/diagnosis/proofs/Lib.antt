@@ -1,2 +1,5 @@
 pub mod RowLaws
 pub mod TurnLaws
+pub mod JoinLaws
+pub mod ShareLaws
+pub mod PartLaws

@@ -1,2 +1,3 @@
 -- What only the code of this crate and its proofs cite.
 pub mod Turns
+pub mod Parts

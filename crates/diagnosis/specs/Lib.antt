@@ -1,3 +1,4 @@
 pub mod Journals
 pub mod Rows
+pub mod Shares
 pub mod Inside

@@ -1,109 +1,123 @@
-//! Every rank is decided, down the ranks.
+//! Workers share the decisions, and what they leave open is decided alone.
 
-ghost use Rattle.std.specs.Prelude.{◌≡◌, ◌<◌, ◌++◌, ◌∷◌, [], IfOk, OnOk, MatchOption, length};
+ghost use Rattle.std.specs.Prelude.{◌≡◌, ◌≤◌, ◌<◌, [], IfOk};
 ghost use Rattle.std.specs.Arc.{arc_value};
-ghost use Rattle.el_logic.specs.declared.types.Part.{Part};
+ghost use Rattle.el_logic.specs.declared.types.Part.{Part as Ontologies};
 ghost use Rattle.case_file.specs.Incoherence.{IsIncoherentFor};
 ghost use Rattle.conflict_logic.specs.Repair.{IsRepair};
-ghost use Rattle.saturate.specs.Decisions.{IsVerdict};
 ghost use Rattle.accuse_core.specs.Marks.{front_of, kept_of};
+ghost use Rattle.commit_lock.specs.Seats.{IsSeatOf, IsIdle, IsWholeSeat, seen};
 ghost use Rattle.commit_book.specs.Books.{ranks_of};
-ghost use Rattle.diagnosis.specs.Journals.{AreByOneWorker};
-ghost use Rattle.diagnosis.specs.Inside.Turns.{IsFront, GoesOn, IsTurn};
+ghost use Rattle.finish_book.specs.Finishing.{IsFinishedBy};
+ghost use Rattle.spec_workers.specs.Books.{lock_case};
+ghost use Rattle.diagnosis.specs.Shares.{IsShared};
+ghost use Rattle.diagnosis.specs.Inside.Parts.{IsOpened};
 
-use accuse_core::{
-    asking_leaves_the_marks, front_is_the_least_undecided_rank, verdicts_at_the_front_move_it,
-};
+use crate::joining::join_parts;
+use crate::parts::Part;
+use crate::splitting::{split_parts, work_side_by_side};
 use case_file::Case;
 use closed_model::ClosedTable;
-use commit_book::{Book, FrontAnswer, Taken, books_are_sound, books_hold_a_repair};
-use saturate::{Verdict, test};
+use commit_book::Book;
+use commit_lock::{CommitLock, DrawWord, Seat};
+use finish_book::finish;
+use io_edge::Gate;
+use step_count::Steps;
 use std::alloc::{AllocError, Global};
-use std::sync::Arc;
+use std::marker::Brand;
+use std::sync::ledger::{Blank, Ledger};
+use std::sync::{Arc, Wait};
+use std::thread::Threads;
 
-/// The number of the one worker.
-const WORKER: u32 = 0;
-
-// Asks for the rank at the front, if there is one.
-fn take_front(alloc: Global, book: &mut Book) -> Result<Option<Taken>, AllocError>
-    ensures asked { OnOk result (GoesOn book.old book.new) }
-    ensures marks { OnOk result (book.new.marks ≡ book.old.marks) }
-    ensures front { IfOk result (λ found. MatchOption found
-        (front_of book.old.marks ≡ ranks_of book.old.case) (IsFront book.new)) }
+// A lock round a book, a word from which its ranks are drawn, and the first part in both.
+fn opened(
+    alloc: Global,
+    book: Book,
+    ranks: u32,
+) -> Result<(CommitLock<Book>, DrawWord, Part), AllocError>
+    requires none { book.entries ≡ [] }
+    requires ranks { ranks ≡ ranks_of book.case }
+    ensures { IfOk result (λ made. IsOpened book made.0 made.1 made.2) }
 {
-    asking_leaves_the_marks();
-    front_is_the_least_undecided_rank();
-    let _ = book.journal();
-    book.reserve_turn(alloc)?;
-    match book.take_front(WORKER) {
-        FrontAnswer::Done => Ok(None),
-        FrontAnswer::Front(taken) => Ok(Some(taken)),
-    }
-}
-
-// Whether the rank at the front can be added to the kept ranks.
-fn tested(alloc: Global, book: &Book, taken: &Taken) -> Result<Verdict, AllocError>
-    requires { IsFront book.now taken.now }
-    ensures { IfOk result (IsVerdict book.now.case
-        (kept_of book.now.marks ++ taken.now.rank ∷ [])) }
-{
-    books_are_sound(book);
-    let _ = book.journal();
-    test(alloc, &taken.snapshot, taken.rank)
-}
-
-// Tells the verdict on the rank at the front.
-fn tell(alloc: Global, book: &mut Book, taken: &Taken, verdict: Verdict) -> Result<(), AllocError>
-    requires front { IsFront book.old taken.now }
-    requires verdict { IsVerdict book.old.case
-        (kept_of book.old.marks ++ taken.now.rank ∷ []) verdict }
-    ensures { OnOk result (IsTurn book.old book.new) }
-{
-    verdicts_at_the_front_move_it();
-    let _ = book.journal();
-    book.reserve_turn(alloc)?;
-    match verdict {
-        Verdict::No(why) => {
-            book.tell_no(WORKER, taken.rank, taken.seen, why);
-            Ok(())
-        }
-        Verdict::Yes(table) => {
-            book.tell_yes(WORKER, taken.rank, taken.seen, table);
-            Ok(())
-        }
-    }
-}
-
-// Decides the rank at the front, if there is one.
-fn decide_front(alloc: Global, book: &mut Book) -> Result<(), AllocError>
-    ensures { OnOk result (IsTurn book.old book.new) }
-{
-    let Some(taken) = take_front(alloc, book)? else {
-        return Ok(());
+    let Ok((lock, seat)) = CommitLock::new(alloc, book) else {
+        return Err(AllocError);
     };
-    let verdict = tested(alloc, book, &taken)?;
-    tell(alloc, book, &taken, verdict)?;
-    Ok(())
+    let (word, pass) = DrawWord::new(alloc, ranks)?;
+    Ok((lock, word, Part { seat, pass }))
 }
 
-/// Decides every rank of a case, as worker 0 alone: takes the rank at the front, tests it over the
-/// kept ranks and tells the verdict, until no rank is left.
-pub fn diagnose(alloc: Global, case: Arc<Case>, base: ClosedTable) -> Result<Book, AllocError>
+// The book under a lock, once every seat was joined into this one.
+fn closed(lock: CommitLock<Book>, seat: Seat<Book>) -> Result<Book, AllocError>
+    requires lock { IsSeatOf lock seat }
+    requires idle { IsIdle seat }
+    requires whole { IsWholeSeat seat }
+    ensures case { IfOk result (λ book. book.case ≡ lock_case lock) }
+    ensures entries { IfOk result (λ book. book.entries ≡ seen seat) }
+{
+    match lock.close(seat) {
+        Ok(book) => Ok(book),
+        Err(_) => Err(AllocError),
+    }
+}
+
+// Workers decide the ranks of a new book, each with as many tests as there are ranks.
+fn share_work<R: Threads + Wait + Sync, G: Gate>(
+    rt: &R,
+    alloc: Global,
+    book: Book,
+    workers: u32,
+    gate: &G,
+) -> Result<Book, AllocError>
+    requires none { book.entries ≡ [] }
+    requires workers { (1 ≤ workers) × (workers ≤ 16) }
+    ensures case { IfOk result (λ after. after.case ≡ book.case) }
+    ensures shared { IfOk result (λ after. IsShared (ranks_of book.case) after.entries) }
+{
+    let ranks = book.case().ranks();
+    let (lock, word, mut first) = opened(alloc, book, ranks)?;
+    let parts = split_parts(alloc, &lock, &word, &mut first, workers)?;
+    let all = work_side_by_side(rt, alloc, &lock, &word, gate, ranks, parts)?;
+    join_parts(&lock, &word, &mut first, all)?;
+    let Part { seat, pass: _ } = first;
+    closed(lock, seat)
+}
+
+// Decides alone what is left of a book. The count of tests is not kept.
+fn finished<L: Ledger>(alloc: Global, book: Book, ledger: Blank) -> Result<Book, AllocError>
+    requires name { ledger.name ≡ L.name }
+    requires parts { ledger.parts ≡ L.parts }
+    requires some { 0 < L.parts }
+    ensures case { IfOk result (λ after. after.case ≡ book.case) }
+    ensures decided { IfOk result (λ after. front_of after.marks ≡ ranks_of book.case) }
+    ensures repair { IfOk result (λ after. IsRepair (IsIncoherentFor book.case Ontologies.Both)
+        (ranks_of book.case) (kept_of after.marks)) }
+    ensures entries { IfOk result (λ after. IsFinishedBy book.entries after.entries) }
+{
+    let mut steps: Steps<L> = Steps::new(ledger);
+    finish(alloc, book, &mut steps)
+}
+
+/// Decides every rank of a case. The workers draw ranks and test them side by side, each with at
+/// most as many tests as there are ranks; what they leave open is decided alone, as worker 0. If
+/// memory runs out for one of them, it has run out for this call. The call may wait.
+pub fn diagnose<R: Threads + Wait + Sync, G: Gate>(
+    rt: &R,
+    alloc: Global,
+    case: Arc<Case>,
+    base: ClosedTable,
+    workers: u32,
+    gate: &G,
+) -> Result<Book, AllocError>
     requires case { base.case ≡ arc_value case }
     requires none { base.ranks ≡ [] }
+    requires workers { (1 ≤ workers) × (workers ≤ 16) }
     ensures case { IfOk result (λ book. book.case ≡ base.case) }
     ensures decided { IfOk result (λ book. front_of book.marks ≡ ranks_of base.case) }
-    ensures repair { IfOk result (λ book. IsRepair (IsIncoherentFor base.case Part.Both)
+    ensures repair { IfOk result (λ book. IsRepair (IsIncoherentFor base.case Ontologies.Both)
         (ranks_of base.case) (kept_of book.marks)) }
-    ensures worker { IfOk result (λ book. AreByOneWorker book.entries) }
+    ensures shared { IfOk result (λ book. IsShared (ranks_of base.case) book.entries) }
 {
-    let ranks = case.ranks();
-    let mut book = Book::new(alloc, case, base)?;
-    for _ in 0..ranks {
-        decide_front(alloc, &mut book)?;
-    }
-    front_is_the_least_undecided_rank();
-    books_hold_a_repair(&book);
-    let _ = book.journal();
-    Ok(book)
+    let book = Book::new(alloc, case, base)?;
+    let book = share_work(rt, alloc, book, workers, gate)?;
+    finished::<Brand>(alloc, book, Blank::new(1))
 }

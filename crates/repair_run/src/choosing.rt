@@ -15,7 +15,7 @@ use case_file::excusing_none_is_incoherence;
 use case_load::Loaded;
 use commit_book::Book;
 use derivation::Derivation;
-use diagnosis::{KeptRows, diagnose, kept_rows};
+use diagnosis::{KeptRows, diagnose_alone, kept_rows};
 use el_logic::Part;
 use evidence_text::write_evidence;
 use evidence_values::evidence_is_a_value;
@@ -134,7 +134,7 @@ fn decided<R: Threads + Wait + Sync, G: Gate>(
         Ok(base) => base,
         Err(fault) => return Err(refusal(alloc, loaded, fault)),
     };
-    let book = diagnose(alloc, Arc::try_clone(&loaded.case)?, base)?;
+    let book = diagnose_alone(alloc, Arc::try_clone(&loaded.case)?, base)?;
     Ok(book)
 }
 

@@ -1,7 +1,7 @@
 use Rattle.std.proofs.Common.{ℕ, ◌<◌, List, All, Contains, sym, subst}
 use Rattle.std.proofs.lemmas.List.Elements.{All-contains_itself, All-weaker}
 use Rattle.accuse_core.specs.Marks.{kept_of}
-use Rattle.diagnosis.proofs.deciding.tested.Goals as goal
+use Rattle.diagnosis.proofs.alone.tested.Goals as goal
 
 pub test-requires-clause-after : goal.test-requires-clause-after
 test-requires-clause-after c =

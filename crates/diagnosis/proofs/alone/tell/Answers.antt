@@ -1,5 +1,5 @@
 use Rattle.diagnosis.proofs.TurnLaws.{no_turns, yes_turns}
-use Rattle.diagnosis.proofs.deciding.tell.Goals as goal
+use Rattle.diagnosis.proofs.alone.tell.Goals as goal
 
 pub returns-in-No : goal.returns-in-No
 returns-in-No c = no_turns c.args.book.now c.reserve_turn.new.self c.args.taken.now c.in_ok-reserve_turn.ensures.ok c.journal.ensures.book.ranks

@@ -6,7 +6,7 @@ use Rattle.conflict_logic.specs.Repair.{IsRepair}
 use Rattle.accuse_core.specs.Marks.{front_of, kept_of}
 use Rattle.commit_book.specs.Books.{BookView, ranks_of}
 use Rattle.diagnosis.proofs.TurnLaws.{one_more_turn}
-use Rattle.diagnosis.proofs.deciding.diagnose.Goals as goal
+use Rattle.diagnosis.proofs.alone.diagnose_alone.Goals as goal
 
 pub loop-preserved : goal.loop-preserved
 loop-preserved c =
