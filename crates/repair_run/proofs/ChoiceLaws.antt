@@ -1,5 +1,5 @@
 -- What is chosen and what is written of it, from the steps to the case.
-use Rattle.std.proofs.Common.{◌≡◌, ◌+◌, ℕ, Bool, List, [], length, sym, ◌∙◌, ap, subst, arith}
+use Rattle.std.proofs.Common.{◌≡◌, ◌+◌, ℕ, Bool, List, [], length, sym, ◌∙◌, ap, subst, absurd, arith}
 use Rattle.std.specs.Prelude.{◌<◌, ◌≤◌, ◌^◌, Some}
 use Rattle.std.specs.List.{range_with_len}
 use Rattle.std.proofs.lemmas.List.{length-map}
@@ -19,12 +19,17 @@ use Rattle.sssom_rows.specs.declared.table.Table.{Table}
 use Rattle.text_names.specs.declared.limits.Limits.{Limits}
 use Rattle.diagnosis.specs.declared.rows.KeptRows.{KeptRows}
 use Rattle.diagnosis.specs.Rows.{has_rank_of, keep_of}
+use Rattle.diagnosis.specs.Shares.{IsShared}
 use Rattle.status_lines.specs.Lines.{summary_text}
 use Rattle.repaired_table.specs.Repaired.{repaired_text}
 use Rattle.accuse_core.specs.Marks.{front_of, kept_of}
+use Rattle.accuse_core.specs.declared.journal.Entry.{Entry}
+use Rattle.evidence_text.specs.declared.types.Body.{Body}
+use Rattle.evidence_text.specs.declared.types.Body.TheVariants as body
+use Rattle.run_evidence.specs.Journals.{HasEntries}
 use Rattle.commit_book.specs.Books.{BookView, ranks_of}
 use Rattle.run_evidence.specs.Tellable.{IsTellable}
-use Rattle.repair_run.specs.Outcomes.{case_in, iri_of_class, keep_in, kept_count, omitted_count, out_text_of, summary_line, AreIncoherentWith}
+use Rattle.repair_run.specs.Outcomes.{case_in, iri_of_class, keep_in, kept_count, omitted_count, out_text_of, summary_line, AreIncoherentWith, HasShares}
 use Rattle.repair_run.specs.Inside.Choices.{IsPlain, IsKept, IsDecidedFor, IsChoice, IsFound}
 use Rattle.repair_run.proofs.FamilyLaws.{same_repair}
 use Rattle.repair_run.proofs.StartLaws.{ExcusingNone, coherent_part, first_part}
@@ -62,11 +67,12 @@ module _ (law : ExcusingNone) (loaded : Loaded) (plain : IsPlain loaded) where
 
   -- the book in which every rank is decided
   pub decided_for : (base : CaseView) (book : BookView) → base ≡ case_in loaded → book.case ≡ base → ((part : Part) → ¬ (IsIncoherentFor (case_in loaded) part []))
-      → front_of book.marks ≡ ranks_of base → IsRepair (IsIncoherentFor base Part.Both) (ranks_of base) (kept_of book.marks) → IsDecidedFor loaded book
-  decided_for base book base_is case_is coherent decided repair = record {
+      → front_of book.marks ≡ ranks_of base → IsRepair (IsIncoherentFor base Part.Both) (ranks_of base) (kept_of book.marks) → IsShared (ranks_of base) book.entries → IsDecidedFor loaded book
+  decided_for base book base_is case_is coherent decided repair shared = record {
     case = case_is ∙ base_is;
     decided = decided ∙ ap ranks_of (sym case_is);
     is_kept = kept (kept_of book.marks) coherent (subst (λ (c : CaseView). IsRepair (IsIncoherentFor c Part.Both) (ranks_of c) (kept_of book.marks)) base_is repair);
+    shared = subst (λ (c : CaseView). IsShared (ranks_of c) book.entries) base_is shared;
   }
 
 -- the rows of a book of this case
@@ -93,6 +99,11 @@ module _ (loaded : Loaded) (ranks : List ℕ) (rows : KeptRows) (choice : IsChoi
       is ∙ ap (λ (n : ℕ). summary_text n rows.kept loaded.inert omitted) counted
       ∙ ap (λ (n : ℕ). summary_text (length loaded.table.rows) n loaded.inert omitted) (choice.counted ∙ ap kept_count choice.keep)
       ∙ ap (λ (n : ℕ). summary_text (length loaded.table.rows) (kept_count (keep_in loaded ranks)) loaded.inert n) left
+
+-- evidence with the journal of a book has its shares
+pub shares_in : (n : ℕ) (entries : List Entry) (b : Body) → HasEntries entries b → IsShared n entries → HasShares n b
+shares_in n entries (body.Diagnosis removed model journal) is shared = subst (IsShared n) (sym is) shared
+shares_in n entries (body.Refusal steps) is shared = absurd is
 
 -- a file within the limits is short
 pub short_file : (most : ℕ) {bytes : List ℕ} → most < 2 ^ 31 → length bytes ≤ most → length bytes < 2 ^ 63

@@ -14,8 +14,11 @@ use Rattle.case_load.specs.Loads.{Inputs, inputs}
 use Rattle.case_load.specs.Folders.{IsLoadedFrom}
 use Rattle.case_load.specs.declared.texts.Loaded.{Loaded}
 use Rattle.diagnosis.specs.Rows.{keep_of}
+use Rattle.diagnosis.specs.Shares.{IsShared}
 use Rattle.repaired_table.specs.Repaired.{repaired_text}
 use Rattle.status_lines.specs.Lines.{summary_text}
+use Rattle.evidence_text.specs.declared.types.Body.{Body}
+use Rattle.evidence_text.specs.declared.types.Body.TheVariants as body
 use Rattle.evidence_text.specs.declared.types.Evidence.{Evidence}
 use Rattle.evidence_text.specs.EvidenceText.{HasText, IsEvidenceValue, evidence_text}
 use Rattle.valid_evidence.specs.Valid.{IsValidEvidence, IsValidRefusal}
@@ -76,10 +79,17 @@ out_text o = out_text_of o.loaded o.kept
 abbrev pub summary_of : {IsRead : Loaded → Type 0} → Outcome IsRead → List ℕ
 summary_of o = summary_line o.loaded o.kept
 
--- the bytes are the text of valid evidence: of OUT with what is kept, or of a part that is incoherent
+-- in the journal of a diagnosis the workers share this number of ranks
+abbrev pub HasShares : ℕ → Body → Type 0
+HasShares n (body.Diagnosis removed model journal) = IsShared n journal.entries
+HasShares n (body.Refusal steps) = ⊥
+
+-- the bytes are the text of valid evidence: of OUT with what is kept, where workers share the ranks;
+-- or of a part that is incoherent
 abbrev pub IsEvidence : Loaded → List ℕ → List ℕ → Type 0
 IsEvidence loaded out bytes = (e : Evidence) × IsValidEvidence loaded out e
     × HasText e × IsEvidenceValue e × (bytes ≡ evidence_text e)
+    × HasShares (length (case_in loaded).order) e.body
 
 abbrev pub IsRefusalEvidence : Loaded → Part → List ℕ → Type 0
 IsRefusalEvidence loaded part bytes = (e : Evidence) × IsValidRefusal loaded part e

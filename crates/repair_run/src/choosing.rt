@@ -15,7 +15,7 @@ use case_file::excusing_none_is_incoherence;
 use case_load::Loaded;
 use commit_book::Book;
 use derivation::Derivation;
-use diagnosis::{KeptRows, diagnose_alone, kept_rows};
+use diagnosis::{KeptRows, diagnose, kept_rows};
 use el_logic::Part;
 use evidence_text::write_evidence;
 use evidence_values::evidence_is_a_value;
@@ -129,12 +129,12 @@ fn decided<R: Threads + Wait + Sync, G: Gate>(
     ensures err { IfErr result (IsChoiceStop loaded.now) }
 {
     excusing_none_is_incoherence();
-    let _ = (rt, workers, gate);
     let base = match start(alloc, &loaded.case) {
         Ok(base) => base,
         Err(fault) => return Err(refusal(alloc, loaded, fault)),
     };
-    let book = diagnose_alone(alloc, Arc::try_clone(&loaded.case)?, base)?;
+    let case = Arc::try_clone(&loaded.case)?;
+    let book = diagnose(rt, alloc, case, base, workers, gate)?;
     Ok(book)
 }
 

@@ -8,6 +8,7 @@ use Rattle.case_load.specs.declared.texts.Loaded.{Loaded}
 use Rattle.accuse_core.specs.Marks.{front_of, kept_of}
 use Rattle.commit_book.specs.Books.{BookView, ranks_of}
 use Rattle.run_evidence.specs.Tellable.{IsTellable}
+use Rattle.diagnosis.specs.Shares.{IsShared}
 use Rattle.diagnosis.specs.declared.rows.KeptRows.{KeptRows}
 use Rattle.repair_run.specs.declared.choosing.ChoiceStop.{ChoiceStop}
 use Rattle.repair_run.specs.declared.choosing.ChoiceStop.TheVariants as Stop
@@ -27,11 +28,12 @@ pub record IsKept (loaded : Loaded) (kept : List ℕ) : Type 0 where
   pub coherent : AreCoherentTogether loaded
   pub repair : IsRepair (AreIncoherentWith (case_in loaded)) (length (case_in loaded).order) kept
 
--- the book is of this case, and in it every rank is decided
+-- the book is of this case, and in it every rank is decided, with a share for workers
 pub record IsDecidedFor (loaded : Loaded) (book : BookView) : Type 0 where
   pub case : book.case ≡ case_in loaded
   pub decided : front_of book.marks ≡ ranks_of book.case
   pub is_kept : IsKept loaded (kept_of book.marks)
+  pub shared : IsShared (length (case_in loaded).order) book.entries
 
 -- the rows that have these ranks
 pub record IsChoice (loaded : Loaded) (kept : List ℕ) (rows : KeptRows) : Type 0 where
