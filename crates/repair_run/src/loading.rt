@@ -37,7 +37,15 @@ pub fn loaded<F: Folder>(
 {
     ranking_has_each_row_once();
     let names = &asked.names;
-    match load(alloc, folder, &names.left, &names.right, &names.map, asked.mode, limits) {
+    match load(
+        alloc,
+        folder,
+        &names.left,
+        &names.right,
+        &names.map,
+        asked.mode,
+        limits,
+    ) {
         Ok(loaded) => {
             runs_are_tellable(&loaded);
             Ok(loaded)
@@ -60,7 +68,14 @@ pub fn made_case(alloc: Global, size: u32, limits: &Limits) -> Result<Loaded, St
         return Err(Status::OutOfMemory);
     };
     let (left, right) = (made.left.as_slice(), made.right.as_slice());
-    match assemble(alloc, left, right, made.table.as_slice(), Mode::Strict, limits) {
+    match assemble(
+        alloc,
+        left,
+        right,
+        made.table.as_slice(),
+        Mode::Strict,
+        limits,
+    ) {
         Ok(loaded) => {
             runs_are_tellable(&loaded);
             Ok(loaded)
