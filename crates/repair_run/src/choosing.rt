@@ -26,7 +26,8 @@ use run_evidence::{evidence_against, evidence_of};
 use saturate::{StartFault, start};
 use status_lines::summary;
 use std::alloc::{AllocError, Global};
-use std::sync::Arc;
+use std::sync::{Arc, Wait};
+use std::thread::Threads;
 use text_names::{Bytes, Text};
 
 /// What is written: EVIDENCE, the text of OUT, and the summary.

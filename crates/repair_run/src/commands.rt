@@ -21,6 +21,8 @@ use el_logic::more_axioms_stay_incoherent;
 use io_edge::{Folder, Gate, Sink};
 use status_lines::Status;
 use std::alloc::Global;
+use std::sync::Wait;
+use std::thread::Threads;
 use text_names::{Limits, Text};
 
 // The run of a command.

@@ -16,6 +16,8 @@ use el_logic::more_axioms_stay_incoherent;
 use io_edge::{Gate, Sink};
 use status_lines::Status;
 use std::alloc::Global;
+use std::sync::Wait;
+use std::thread::Threads;
 use text_names::Limits;
 
 // The run before the line of a refusal.

@@ -41,7 +41,7 @@ ReadAgain = (e : Evidence) → HasText e → IsEvidenceValue e → text_read (ev
 
 module _ (again : ReadAgain) where
   pub run_is_valid : (loaded : Loaded) (texts : CheckTexts) → IsEvidence loaded texts.out texts.evidence → IsValidRun loaded texts
-  run_is_valid loaded texts (e, valid, has, value, bytes) =
+  run_is_valid loaded texts (e, valid, has, value, bytes, shares) =
       (plain e, ap text_read bytes ∙ again e has value, valid_plain loaded texts.out e valid)
 
   pub refusal_is_valid : (loaded : Loaded) (part : Part) (texts : CheckTexts) → IsRefusalEvidence loaded part texts.evidence → IsValidRefused loaded texts
