@@ -1,5 +1,5 @@
 -- What is chosen and what is written of it, from the steps to the case.
-use Rattle.std.proofs.Common.{◌≡◌, ◌+◌, ℕ, Bool, List, [], length, sym, ◌∙◌, ap, subst, absurd, arith}
+use Rattle.std.proofs.Common.{◌≡◌, ◌+◌, ℕ, Bool, List, [], length, sym, ◌∙◌, ap, subst, arith}
 use Rattle.std.specs.Prelude.{◌<◌, ◌≤◌, ◌^◌, Some}
 use Rattle.std.specs.List.{range_with_len}
 use Rattle.std.proofs.lemmas.List.{length-map}
@@ -106,5 +106,5 @@ shares_in n entries (body.Diagnosis removed model journal) is shared = subst (Is
 shares_in n entries (body.Refusal steps) is shared = absurd is
 
 -- a file within the limits is short
-pub short_file : (most : ℕ) {bytes : List ℕ} → most < 2 ^ 31 → length bytes ≤ most → length bytes < 2 ^ 63
-short_file most few within = omega (arith, few, within)
+pub short_file : (most : ℕ) (bytes : List ℕ) → most < 2 ^ 31 → length bytes ≤ most → length bytes < 2 ^ 63
+short_file most bytes few within = omega (arith, few, within)

@@ -1,6 +1,6 @@
 -- How the steps of a run join.
 use Rattle.std.proofs.Common.{◌≡◌, ◌⊎◌, ◌≤◌, ℕ, List, ◌++◌, inl, inr, refl, sym, ◌∙◌, ap, subst, ⊎_elim, arith}
-use Rattle.std.specs.Prelude.{Option, Some, None, IfSome, string_bytes}
+use Rattle.std.specs.Prelude.{false, Option, Some, None, IfSome, string_bytes}
 use Rattle.text_names.specs.declared.limits.Limits.{Limits}
 use Rattle.io_edge.specs.Outside.{Files, FolderSeen, SinkSeen, FaultsNeverFall, Rose, HoldsFront, HasGotFront, with_file}
 use Rattle.io_edge.specs.declared.outside.Target.{Target}
@@ -8,6 +8,8 @@ use Rattle.io_edge.specs.declared.outside.Target.TheVariants as Target
 use Rattle.el_logic.specs.declared.types.Part.{Part}
 use Rattle.byte_words.specs.Faults.{OrOutOfMemory}
 use Rattle.ofn_axiom.specs.declared.types.Mode.TheVariants.{ElPart}
+use Rattle.case_maker.specs.MadeCase.{left_text, right_text, table_text}
+use Rattle.case_load.specs.Loads.{Inputs, inputs}
 use Rattle.case_load.specs.Faults.{is_outside, load_ran_out}
 use Rattle.case_load.specs.Folders.{IsFirstFileFault}
 use Rattle.case_load.specs.declared.fault.LoadFault.{LoadFault}
@@ -21,6 +23,7 @@ use Rattle.repair_run.specs.declared.request.Request.{Request}
 use Rattle.repair_run.specs.Outcomes.{Outcome, inputs_named, IsIncoherentCase, IsRepairable, out_text_of}
 use Rattle.status_lines.specs.Runs.{Run, IfTold, HasGot}
 use Rattle.repair_run.specs.Run.{Shown, HoldsEvidence, HoldsBoth, IsReadIn, IsDone, IsTorn, IsPutShort, FilesStand, OutputStands}
+use Rattle.repair_run.specs.Made.{made_texts}
 use Rattle.repair_run.specs.Inside.Choices.{AreResultsOf, IsFound}
 use Rattle.repair_run.specs.Inside.Stops.{IsFileStop, IsLoadStop, IsPutStop, IsStop, IsStopBy, IsQuiet, IsEvidenceStop, IsRefusal, IsRefused, IsWriteStop, Written, IsResultStop, AreWritten, written_of}
 
@@ -63,6 +66,13 @@ fault_stops IsFault (load.Syntax side place kind) h = h
 fault_stops IsFault (load.Profile side place head) h = h
 fault_stops IsFault (load.Table fault) h = h
 fault_stops IsFault (load.Limit kind) h = h
+
+-- what is so of three texts that are those of a made case
+pub made_inputs : (P : Inputs → Type 0) (size : ℕ) {left right table : List ℕ} → left ≡ left_text size → right ≡ right_text size → table ≡ table_text size
+    → P (inputs left right table) → P (made_texts size)
+made_inputs P size {left} {right} {table} l r t h =
+    subst (λ (a : List ℕ). P (inputs a (right_text size) (table_text size))) l
+    (subst (λ (b : List ℕ). P (inputs left b (table_text size))) r (subst (λ (c : List ℕ). P (inputs left right c)) t h))
 
 -- if nothing is loaded the run stops
 pub load_stop : (IsFault : LoadFault → Type 0) (IsRead : Loaded → Type 0) (IsShort : Target → Type 0) (s : Status)

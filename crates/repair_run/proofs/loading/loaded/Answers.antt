@@ -8,8 +8,8 @@ returns-in-Ok-clause-plain g c =
     let from = read.from_texts in
     let limits = c.args.limits.now in
     loaded_is_plain c.ranking_has_each_row_once.ensures.count limits from.documents from.table c.in-Ok.loaded from.made
-    (c.runs_are_tellable.ensures read.texts c.args.asked.now.mode limits (short_file limits.file_bytes c.requires.bytes read.files.left.0)
-    (short_file limits.file_bytes c.requires.bytes read.files.right.0) from)
+    (c.runs_are_tellable.ensures read.texts c.args.asked.now.mode limits (short_file limits.file_bytes _ c.requires.bytes read.files.left.0)
+    (short_file limits.file_bytes _ c.requires.bytes read.files.right.0) from)
 
 pub returns-in-Err-clause-stop : goal.returns-in-Err-clause-stop
 returns-in-Err-clause-stop g c =
