@@ -6,9 +6,9 @@ use Rattle.evidence_text.specs.declared.types.Body.TheVariants as body
 use Rattle.evidence_text.specs.declared.types.Evidence.{Evidence}
 
 -- the body is that of a diagnosis, and its journal has just these entries
-abbrev pub HasEntries : List Entry → Body → Type 0
-HasEntries entries (body.Diagnosis removed model journal) = journal.entries ≡ entries
-HasEntries entries (body.Refusal steps) = ⊥
+abbrev pub HasJournal : List Entry → Body → Type 0
+HasJournal entries (body.Diagnosis removed model journal) = journal.entries ≡ entries
+HasJournal entries (body.Refusal steps) = ⊥
 
 abbrev pub IsJournalOf : List Entry → Evidence → Type 0
-IsJournalOf entries evidence = HasEntries entries evidence.body
+IsJournalOf entries evidence = HasJournal entries evidence.body

@@ -1,5 +1,5 @@
 use Rattle.std.proofs.Common.{sym, subst, ◌∙◌}
-use Rattle.run_evidence.specs.Journals.{HasEntries}
+use Rattle.run_evidence.specs.Journals.{HasJournal}
 use Rattle.run_evidence.proofs.Bodies.{of_book_valid, of_book_text}
 use Rattle.run_evidence.proofs.whole.evidence_of.Goals as goal
 
@@ -18,4 +18,4 @@ returns-clause-text c =
 
 pub returns-clause-journal : goal.returns-clause-journal
 returns-clause-journal c =
-    subst (HasEntries c.args.book.now.entries) (sym c.in_ok-evidence.ensures.body) (c.in_ok-journal.ensures ∙ c.journal-entries.ensures.entries)
+    subst (HasJournal c.args.book.now.entries) (sym c.in_ok-evidence.ensures.body) (c.in_ok-journal.ensures ∙ c.journal-entries.ensures.entries)
