@@ -26,7 +26,7 @@ use Rattle.accuse_core.specs.Marks.{front_of, kept_of}
 use Rattle.accuse_core.specs.declared.journal.Entry.{Entry}
 use Rattle.evidence_text.specs.declared.types.Body.{Body}
 use Rattle.evidence_text.specs.declared.types.Body.TheVariants as body
-use Rattle.run_evidence.specs.Journals.{HasEntries}
+use Rattle.run_evidence.specs.Journals.{HasJournal}
 use Rattle.commit_book.specs.Books.{BookView, ranks_of}
 use Rattle.run_evidence.specs.Tellable.{IsTellable}
 use Rattle.repair_run.specs.Outcomes.{case_in, iri_of_class, keep_in, kept_count, omitted_count, out_text_of, summary_line, AreIncoherentWith, HasShares}
@@ -101,7 +101,7 @@ module _ (loaded : Loaded) (ranks : List ℕ) (rows : KeptRows) (choice : IsChoi
       ∙ ap (λ (n : ℕ). summary_text (length loaded.table.rows) (kept_count (keep_in loaded ranks)) loaded.inert n) left
 
 -- evidence with the journal of a book has its shares
-pub shares_in : (n : ℕ) (entries : List Entry) (b : Body) → HasEntries entries b → IsShared n entries → HasShares n b
+pub shares_in : (n : ℕ) (entries : List Entry) (b : Body) → HasJournal entries b → IsShared n entries → HasShares n b
 shares_in n entries (body.Diagnosis removed model journal) is shared = subst (IsShared n) (sym is) shared
 shares_in n entries (body.Refusal steps) is shared = absurd is
 

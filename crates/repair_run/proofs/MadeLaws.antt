@@ -2,7 +2,7 @@
 use Rattle.std.proofs.Common.{◌≡◌, List, ℕ, inl, inr, refl, sym, subst, ⊎_elim}
 use Rattle.std.specs.Prelude.{IfSome, string_bytes}
 use Rattle.text_names.specs.declared.limits.Limits.{Limits}
-use Rattle.io_edge.specs.Outside.{PutsRose}
+use Rattle.io_edge.specs.Outside.{PutsRose, SinkSeen}
 use Rattle.io_edge.specs.declared.outside.Role.{Role}
 use Rattle.io_edge.specs.declared.outside.Target.{Target}
 use Rattle.io_edge.specs.declared.outside.Target.TheVariants as target
@@ -141,9 +141,10 @@ module _ (run : Run) (size : ℕ) (limits : Limits) (loaded : Loaded) (read : Is
   put_stop (Status.WriteFault target.Evidence) h = absurd h
   put_stop _ h = absurd h
 
-  pub put_quiet : (s : Status) → Puts s → IsQuiet run.output run.output_after s
-  put_quiet (Status.WriteFault target.Output) h = tt
-  put_quiet Status.OutOfMemory h = h
-  put_quiet (Status.WriteFault target.Out) h = absurd h
-  put_quiet (Status.WriteFault target.Evidence) h = absurd h
-  put_quiet _ h = absurd h
+-- and what the output has got then
+pub put_quiet : (old new : SinkSeen) (results : Results) (s : Status) → IsPutStop old new (string_bytes results.line) s → IsQuiet old new s
+put_quiet old new results (Status.WriteFault target.Output) h = tt
+put_quiet old new results Status.OutOfMemory h = h
+put_quiet old new results (Status.WriteFault target.Out) h = absurd h
+put_quiet old new results (Status.WriteFault target.Evidence) h = absurd h
+put_quiet old new results _ h = absurd h
