@@ -1,5 +1,5 @@
 -- The check of a refusal has no fault: it reads its files and makes a case of them.
-use Rattle.std.proofs.Common.{◌≡◌, ◌<◌, ◌≤◌, ℕ, List, length, Option, Some, inl, inr, refl, subst, ◌∙◌, arith}
+use Rattle.std.proofs.Common.{◌≡◌, ◌<◌, ◌≤◌, ℕ, Bool, List, length, Option, Some, inl, inr, refl, subst, ◌∙◌, arith}
 use Rattle.text_names.specs.declared.limits.Limits.{Limits}
 use Rattle.io_edge.specs.Outside.{Files, IsLonger, with_file}
 use Rattle.io_edge.specs.declared.outside.Role.{Role}

@@ -1,5 +1,5 @@
 -- The evidence of a refusal, as the check of it reads it: with a table that has no rows.
-use Rattle.std.proofs.Common.{◌≡◌, ℕ, List, map, Some, sym, ap, subst, ◌∙◌}
+use Rattle.std.proofs.Common.{◌≡◌, ℕ, Bool, List, map, Some, sym, ap, subst, ◌∙◌}
 use Rattle.std.specs.Arc.{arc_value}
 use Rattle.byte_words.specs.Fronts.{without_mark}
 use Rattle.text_names.specs.declared.limits.Limits.{Limits}
