@@ -30,4 +30,3 @@ part_send = declared_send Part.the_type (seat_send, (pass_send, tt))
 -- what a worker gives back may be sent
 pub worked_send : IsSend Worked.the_row
 worked_send = declared_send Worked.the_type (seat_send, (pass_send, (end_send, tt)))
-
