@@ -3,3 +3,4 @@ pub mod TurnLaws
 pub mod JoinLaws
 pub mod ShareLaws
 pub mod PartLaws
+pub mod Sending

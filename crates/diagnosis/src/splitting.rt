@@ -96,7 +96,7 @@ pub fn work_side_by_side<R: Threads + Wait + Sync, G: Gate>(
         &|part: Part| -> Worked
             requires { IsSync R.row × IsSync G.row × IsFresh lock.now word.now part
                 × (draw_ranks word.now ≡ ranks_at lock.now) }
-            ensures { HasWorked lock.entry.now word.entry.now budget.entry result }
+            ensures { HasWorked lock.entry.now word.entry.now budget result }
         { work_part(rt, alloc, lock, word, gate, budget, part) },
     )
 }
