@@ -5,7 +5,7 @@ ghost use Rattle.std.specs.Prelude.{◌≤◌};
 use crate::setting::base;
 use accuse_core::{Entry, Event, Reply};
 use commit_book::Book;
-use diagnosis::{diagnose, diagnose_alone, kept_rows};
+use diagnosis::{diagnose, kept_rows};
 use io_edge::OpenGate;
 use std::alloc::Global;
 use std::sync::{Arc, Wait};
@@ -83,24 +83,8 @@ r:Y\tskos:broadMatch\tl:C\t0.7
     ),
 ];
 
-// Whether just these rows of a case are kept in a book.
-fn keeps(alloc: Global, book: &Book, keep: &[bool]) -> Result<bool, Fail> {
-    let found = kept_rows(alloc, book)?;
-    let kept = keep.iter().filter(|keeps| **keeps).count();
-    Ok(found.keep.as_slice() == keep && found.kept == kept && found.removed == keep.len() - kept)
-}
-
-// Whether just these rows of a case are kept by one worker alone.
-fn keeps_alone(alloc: Global, case: Case) -> Result<bool, Fail> {
-    let (left, right, rows, keep) = case;
-    let base = base(alloc, left, right, rows)?;
-    let case = Arc::try_clone(base.case())?;
-    let book = diagnose_alone(alloc, case, base)?;
-    keeps(alloc, &book, keep)
-}
-
-// Whether just these rows of a case are kept by this number of workers side by side.
-fn keeps_shared<R: Threads + Wait + Sync>(
+// Whether just these rows of a case are kept by this number of workers.
+fn keeps<R: Threads + Wait + Sync>(
     rt: &R,
     alloc: Global,
     case: Case,
@@ -112,24 +96,17 @@ fn keeps_shared<R: Threads + Wait + Sync>(
     let base = base(alloc, left, right, rows)?;
     let case = Arc::try_clone(base.case())?;
     let book = diagnose(rt, alloc, case, base, workers, &OpenGate)?;
-    keeps(alloc, &book, keep)
+    let found = kept_rows(alloc, &book)?;
+    let kept = keep.iter().filter(|keeps| **keeps).count();
+    Ok(found.keep.as_slice() == keep && found.kept == kept && found.removed == keep.len() - kept)
 }
 
 #[test]
 fn rows_of_cases(rt: HostRuntime) -> Result<(), Fail> {
     for case in CASES {
         let (_, _, rows, _) = case;
-        assert!(rt; keeps_alone(rt.alloc(), case)?, "{rows}");
-    }
-    Ok(())
-}
-
-#[test]
-fn rows_of_cases_by_workers(rt: HostRuntime) -> Result<(), Fail> {
-    for case in CASES {
-        let (_, _, rows, _) = case;
         for workers in [1, 2, 16] {
-            assert!(rt; keeps_shared(&rt, rt.alloc(), case, workers)?, "{rows} {workers}");
+            assert!(rt; keeps(&rt, rt.alloc(), case, workers)?, "{rows} {workers}");
         }
     }
     Ok(())

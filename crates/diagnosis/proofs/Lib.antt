@@ -1,5 +1,4 @@
 pub mod RowLaws
-pub mod TurnLaws
 pub mod JoinLaws
 pub mod ShareLaws
 pub mod PartLaws

@@ -1,3 +1,2 @@
 -- What only the code of this crate and its proofs cite.
-pub mod Turns
 pub mod Parts

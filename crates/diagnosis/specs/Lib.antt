@@ -1,4 +1,3 @@
-pub mod Journals
 pub mod Rows
 pub mod Shares
 pub mod Inside

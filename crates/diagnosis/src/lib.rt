@@ -2,13 +2,11 @@
 //! book; and the rows that are kept.
 #![tactic(auto)]
 
-mod alone;
 mod deciding;
 mod joining;
 mod parts;
 mod rows;
 mod splitting;
 
-pub use alone::diagnose_alone;
 pub use deciding::diagnose;
 pub use rows::{KeptRows, kept_rows};

@@ -85,7 +85,7 @@ module _ (el_part : Bool) (names : FileNames) (apart : AreApart names) (limits :
   checked =
       let read = s.outcome.read in
       record {
-        texts = texts_of _ _ _ s;
+        texts = texts_of run.folder (request_of el_part names) limits s;
         loaded = s.outcome.loaded;
         read = record {
           files = record {
@@ -104,7 +104,7 @@ module _ (el_part : Bool) (names : FileNames) (apart : AreApart names) (limits :
   -- and answers yes
   pub answered : ReadAgain → IsOrMemory Yes answer
   answered again =
-      of_told _ check.folder.files left found after.checked.yes_answer after.no_fault checked (run_is_valid again s.outcome.loaded (texts_of _ _ _ s) s.valid)
+      of_told _ check.folder.files left found after.checked.yes_answer after.no_fault checked (run_is_valid again s.outcome.loaded (texts_of run.folder (request_of el_part names) limits s) s.valid)
 
 -- a run that is done is answered yes
 pub done_answered : ReadAgain → (el_part : Bool) (names : FileNames) → AreApart names → (limits : Limits) (run check : Run) (answer : CheckStatus) → IsRun run (request_of el_part names) limits status.Done
