@@ -3,8 +3,6 @@
 ghost use Rattle.std.specs.Prelude.{◌≤◌};
 
 use crate::setting::base;
-use accuse_core::{Entry, Event, Reply};
-use commit_book::Book;
 use diagnosis::{diagnose, kept_rows};
 use io_edge::OpenGate;
 use std::alloc::Global;

@@ -10,6 +10,7 @@ use text_names::Limits;
 const MOST_LOOKS: u32 = 200_000_000;
 
 /// A gate that holds the first test until a second has begun.
+#[derive(Drop)]
 struct Meeting {
     /// How many tests have begun.
     begun: AtomicU64,
