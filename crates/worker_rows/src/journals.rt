@@ -40,7 +40,11 @@ pub(crate) fn are_rows(entries: &[Entry], rows: &[Row]) -> bool {
 /// Whether just the second of three ranks is removed, by a derivation, and the others are kept.
 pub(crate) fn removes_the_second(book: &Book) -> bool {
     let kept: [u32; 2] = [0, 2];
-    let whys = [book.why(0).is_some(), book.why(1).is_some(), book.why(2).is_some()];
+    let whys = [
+        book.why(0).is_some(),
+        book.why(1).is_some(),
+        book.why(2).is_some(),
+    ];
     book.core().kept() == kept.as_slice()
         && book.table().ranks() == kept.as_slice()
         && whys == [false, true, false]
