@@ -1,6 +1,8 @@
 //! What is left of a book, decided alone.
 
-ghost use Rattle.std.specs.Prelude.{◌≡◌, ◌<◌};
+ghost use Rattle.std.specs.Prelude.{◌≡◌, ◌<◌, ◌≤◌, IfOk};
+ghost use Rattle.commit_book.specs.Books.{ranks_of};
+ghost use Rattle.finish_book.specs.Finishing.{removed_of};
 
 use crate::journals::{are_rows, done, front, no, removes_the_second, take, yes};
 use crate::setting::{NO_ROWS, THREE_ROWS, new_book};
@@ -8,23 +10,32 @@ use crate::worked::left_half_done;
 use accuse_core::{Event, Reply};
 use commit_book::Book;
 use finish_book::finish;
-use std::alloc::Global;
+use std::alloc::{AllocError, Global};
 use std::marker::Brand;
 use std::sync::ledger::{Blank, Ledger};
 use std::test::Fail;
 use step_count::Steps;
 
-fn finish_by<L: Ledger>(alloc: Global, book: Book, blank: Blank) -> Result<Book, Fail>
+// What is finished, and the count of its tests. No program sees the count, so the bound for three
+// ranks of which one is removed stands here.
+fn counted<L: Ledger>(
+    alloc: Global,
+    book: Book,
+    blank: Blank,
+) -> Result<(Book, Steps<L>), AllocError>
     requires name { blank.name ≡ L.name }
     requires parts { blank.parts ≡ L.parts }
     requires some { 0 < blank.parts }
+    ensures six { IfOk result (λ after. ranks_of book.case ≡ 3 → removed_of after.0.marks ≡ 1
+        → after.1 ≤ 6) }
 {
-    let mut steps: Steps<L> = Steps::new(blank);
-    Ok(finish(alloc, book, &mut steps)?)
+    let mut steps = Steps::new(blank);
+    let book = finish(alloc, book, &mut steps)?;
+    Ok((book, steps))
 }
 
-fn finished(alloc: Global, book: Book) -> Result<Book, Fail> {
-    finish_by::<Brand>(alloc, book, Blank::new(1))
+fn finished(alloc: Global, book: Book) -> Result<Book, AllocError> {
+    Ok(counted::<Brand>(alloc, book, Blank::new(1))?.0)
 }
 
 #[test]
