@@ -7,27 +7,27 @@ use commit_book::Book;
 pub(crate) type Row = (Event, Reply);
 
 /// A worker takes a rank, and may test it against this number of kept ranks.
-pub(crate) const fn take(worker: u32, rank: u32, seen: u32) -> Row {
+pub(crate) fn take(worker: u32, rank: u32, seen: u32) -> Row {
     (Event::Take { worker, rank }, Reply::Seen(seen))
 }
 
 /// It is coherent with them, and kept.
-pub(crate) const fn yes(worker: u32, rank: u32, seen: u32) -> Row {
+pub(crate) fn yes(worker: u32, rank: u32, seen: u32) -> Row {
     (Event::Yes { worker, rank, seen }, Reply::Kept)
 }
 
 /// It is not, and removed.
-pub(crate) const fn no(worker: u32, rank: u32, seen: u32) -> Row {
+pub(crate) fn no(worker: u32, rank: u32, seen: u32) -> Row {
     (Event::No { worker, rank, seen }, Reply::Marked)
 }
 
 /// A worker takes the rank at the front.
-pub(crate) const fn front(worker: u32, rank: u32, seen: u32) -> Row {
+pub(crate) fn front(worker: u32, rank: u32, seen: u32) -> Row {
     (Event::TakeFront { worker }, Reply::Front(rank, seen))
 }
 
 /// A worker asks for the front, and every rank is decided.
-pub(crate) const fn done(worker: u32) -> Row {
+pub(crate) fn done(worker: u32) -> Row {
     (Event::TakeFront { worker }, Reply::Done)
 }
 
