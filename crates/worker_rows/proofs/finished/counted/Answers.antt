@@ -1,4 +1,4 @@
-use Rattle.std.proofs.Common.{◌≡◌, arith}
+use Rattle.std.proofs.Common.{arith}
 use Rattle.worker_rows.proofs.finished.counted.Goals as goal
 
 pub returns : goal.returns
