@@ -1,7 +1,7 @@
 -- Different numbers below a bound are no more than the bound.
-use Rattle.std.proofs.Common.{◌≡◌, ◌==◌, ◌<◌, ◌≤◌, ℕ, ⊥, Bool, true, cond, List, [], ◌∷◌, All, length, refl, sym, ap, eqb, arith, ⊎_elim}
+use Rattle.std.proofs.Common.{◌≡◌, ◌==◌, ◌+◌, ◌<◌, ◌≤◌, ℕ, Bool, false, cond, List, [], ◌∷◌, All, length, refl, sym, ap, eqb, arith}
 use Rattle.std.specs.List.{AllByRecursion, IsDistinct}
-use Rattle.std.proofs.lemmas.Bool.{cases_eq, ne_eqb, eq-eqb, eqb-true}
+use Rattle.std.proofs.lemmas.Bool.{ne_eqb, eq-eqb, eqb-true}
 use Rattle.std.proofs.lemmas.List.Elements.{All-contains}
 use Rattle.std.proofs.lemmas.List.Sums.{sum_by-cons}
 use Rattle.std.proofs.lemmas.Map.Steps.{length-le_from_distinct_below}
@@ -27,6 +27,7 @@ apart x (y ∷ ys) none =
 
 -- numbers of which none stands twice differ from each other
 distinct : (xs : List ℕ) → NoneTwice xs → IsDistinct eqb xs
+unfolding IsDistinct
 distinct [] once = tt
 distinct (x ∷ xs) once =
     let count = times_cons x x xs in
