@@ -30,7 +30,7 @@ loop-preserved-in-Ok-true g c =
     let few : c.loop.made + 1 ≤ c.args.budget = omega (arith, within, less) in
     let count = ap (λ (b : Bool). c.loop.made + cond {A = ℕ} b 1 0) (sym c.in-Ok-true.field-0-test) in
     let not_over = subst (λ (l : List ℕ). All (λ x. x < ranks_of c.args.draw.now) l) (sym drew)
-        (All-push (λ x. x < ranks_of c.args.draw.now) (drawn c.loop.pass) rank was.not_over c.in-Some-draw.ensures.below) in
+    (All-push (λ x. x < ranks_of c.args.draw.now) (drawn c.loop.pass) rank was.not_over c.in-Some-draw.ensures.below) in
     let taken = more_taken (number c.args.seat.now) (number before) c.args.budget rank c.loop.made (c.loop.made + 1) c.in-Ok-true.field-0
     (drawn c.args.pass.now) (drawn c.loop.pass) (drawn c.draw.new.pass) (seen c.args.seat.now) (seen before) (seen after)
     was.same.0 count few was.taken drew c.in-Ok-true.ensures.ok in
