@@ -2,13 +2,10 @@
 use Rattle.std.proofs.Common.{◌≡◌, ℕ, zero, suc, ◌+◌, ◌≤◌, ◌<◌, Bool, true, false, cond, List, [], ◌∷◌, ◌++◌, length, All, refl, sym, ap, ◌∙◌, subst, arith, ⊎_elim, inl, inr}
 use Rattle.std.proofs.lemmas.List.{append_assoc, append-nil, length-append}
 use Rattle.std.proofs.lemmas.List.Sums.{sum_by-append, sum_by-cons}
-use Rattle.accuse_core.specs.declared.event.Event.{Event}
-use Rattle.accuse_core.specs.declared.event.Event.TheVariants.{No, Yes}
 use Rattle.accuse_core.specs.declared.journal.Entry.{Entry}
-use Rattle.spec_workers.specs.Books.{Tells}
 use Rattle.spec_workers.specs.Turns.{IsVerdictOn, IsTested, IsTake, AreTaken, IsFrontTaken, AreFrontsTaken, is_verdict, verdicts_in}
 use Rattle.spec_workers.specs.Inside.Steps.{IsTakeStep, IsTurn, IsFrontTurn}
-use Rattle.spec_workers.specs.Inside.Stages.{IsTaking, HasTaken, HasFronts}
+use Rattle.spec_workers.specs.Inside.Stages.{HasTaken, HasFronts}
 use Rattle.commit_lock.specs.Passes.{NoneTwice}
 use Rattle.spec_workers.proofs.Holds.{tells_nothing, tells_then}
 use Rattle.spec_workers.proofs.Pigeons.{few_numbers}

@@ -1,4 +1,4 @@
-use Rattle.std.proofs.Common.{◌≡◌, ◌<◌, [], ◌∷◌, subst, arith}
+use Rattle.std.proofs.Common.{[], ◌∷◌, subst, arith}
 use Rattle.accuse_core.specs.declared.event.Event.TheVariants.{TakeFront}
 use Rattle.commit_lock.specs.Seats.{number, seen}
 use Rattle.commit_book.specs.declared.answers.FrontAnswer.{FrontAnswer}

@@ -1,10 +1,9 @@
-use Rattle.std.proofs.Common.{◌≡◌, ◌∙◌, refl, true, ℕ, ◌+◌, suc, subst, arith, Bool, List}
-use Rattle.accuse_core.specs.declared.journal.Entry.{Entry}
+use Rattle.std.proofs.Common.{◌∙◌, refl, ◌+◌, subst, arith, Bool}
 use Rattle.commit_lock.specs.Seats.{number, seen}
-use Rattle.spec_workers.specs.Books.{lock_case, Tells}
+use Rattle.spec_workers.specs.Books.{lock_case, ranks_at}
 use Rattle.spec_workers.specs.Inside.Fronts.{MovesFront}
 use Rattle.spec_workers.specs.Inside.Steps.{IsFrontTurn}
-use Rattle.spec_workers.specs.Inside.Stages.{HasFronts}
+use Rattle.spec_workers.proofs.FrontLemmas.{front_at_most}
 use Rattle.spec_workers.proofs.StageLemmas.{more_fronts}
 use Rattle.spec_workers.proofs.working.take_fronts.Goals as goal
 
@@ -25,3 +24,9 @@ loop-preserved g c =
       fronts = more_fronts (number c.args.seat.now) (number before) c.loop.counter (c.loop.counter + 1) (seen c.args.seat.now) (seen before) (seen after)
           was.0 refl c.loop.invariant.fronts step;
     }
+
+pub returns-clause-few : goal.returns-clause-few
+returns-clause-few g c = λ _.
+    let so_far = c.loop.invariant.few in
+    let within = front_at_most (ranks_at c.args.lock.now) (seen c.loop.seat) in
+    omega (arith, so_far, within)
