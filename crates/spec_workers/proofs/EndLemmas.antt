@@ -1,5 +1,5 @@
 -- How the work of one worker ends.
-use Rattle.std.proofs.Common.{◌≡◌, ℕ, ◌+◌, ◌-◌, ◌≤◌, List, [], ◌∷◌, ◌++◌, refl, sym, ap, ◌∙◌, subst, arith, inr}
+use Rattle.std.proofs.Common.{◌≡◌, ℕ, ◌+◌, ◌-◌, List, [], ◌∷◌, ◌++◌, refl, sym, ap, ◌∙◌, subst, arith, inr}
 use Rattle.std.proofs.lemmas.List.{append_assoc, append-nil}
 use Rattle.accuse_core.specs.declared.event.Event.TheVariants.{TakeFront}
 use Rattle.accuse_core.specs.declared.event.Reply.TheVariants.{Done as AllDone}

@@ -4,7 +4,6 @@ use Rattle.std.proofs.lemmas.Bool.{ltb-true, ltb-false}
 use Rattle.std.proofs.lemmas.List.Elements.{All-contains_itself, All-weaker, All-take}
 use Rattle.case_file.specs.Cases.{CaseView}
 use Rattle.accuse_core.specs.declared.mark.Mark.{Mark}
-use Rattle.accuse_core.specs.declared.event.Reply.{Reply}
 use Rattle.accuse_core.specs.declared.event.Reply.TheVariants.{Over, Seen, Done, Front}
 use Rattle.accuse_core.specs.declared.journal.Entry.{Entry}
 use Rattle.accuse_core.specs.Marks.{is_decided, mark_at, kept_of, number_kept, front_of}

@@ -1,8 +1,8 @@
 -- What a seat has seen and told after one hold of the lock, and after several.
-use Rattle.std.proofs.Common.{◌≡◌, ◌==◌, ◌<◌, ℕ, suc, true, List, [], ◌∷◌, ◌++◌, length, All, refl, sym, ap, ◌∙◌, subst, arith, eq-eqb}
+use Rattle.std.proofs.Common.{◌≡◌, ◌==◌, ℕ, suc, true, List, [], ◌∷◌, ◌++◌, All, refl, sym, ap, ◌∙◌, subst, arith, eq-eqb}
 use Rattle.std.proofs.lemmas.List.{append_assoc, append-nil}
 use Rattle.std.proofs.lemmas.List.Elements.{filter-append}
-use Rattle.commit_lock.specs.Entries.{IsBeginning, GrowsBy, made_by}
+use Rattle.commit_lock.specs.Entries.{IsBeginning, GrowsBy}
 use Rattle.accuse_core.specs.declared.journal.Entry.{Entry}
 use Rattle.commit_book.specs.Books.{BookView, worker_of}
 use Rattle.spec_workers.specs.Books.{own_of, Tells}

@@ -1,15 +1,14 @@
 -- Turns one after another.
-use Rattle.std.proofs.Common.{◌≡◌, ℕ, zero, suc, ◌+◌, ◌≤◌, ◌<◌, Bool, true, false, cond, List, [], ◌∷◌, ◌++◌, refl, sym, ap, ◌∙◌, subst, arith, ⊎_elim, inl, inr}
-use Rattle.std.proofs.lemmas.List.{append_assoc, append-nil}
+use Rattle.std.proofs.Common.{◌≡◌, ℕ, zero, suc, ◌+◌, ◌≤◌, ◌<◌, Bool, true, false, cond, List, [], ◌∷◌, ◌++◌, length, All, refl, sym, ap, ◌∙◌, subst, arith, ⊎_elim, inl, inr}
+use Rattle.std.proofs.lemmas.List.{append_assoc, append-nil, length-append}
 use Rattle.std.proofs.lemmas.List.Sums.{sum_by-append, sum_by-cons}
-use Rattle.accuse_core.specs.declared.event.Event.{Event}
-use Rattle.accuse_core.specs.declared.event.Event.TheVariants.{No, Yes}
 use Rattle.accuse_core.specs.declared.journal.Entry.{Entry}
-use Rattle.spec_workers.specs.Books.{Tells}
 use Rattle.spec_workers.specs.Turns.{IsVerdictOn, IsTested, IsTake, AreTaken, IsFrontTaken, AreFrontsTaken, is_verdict, verdicts_in}
 use Rattle.spec_workers.specs.Inside.Steps.{IsTakeStep, IsTurn, IsFrontTurn}
-use Rattle.spec_workers.specs.Inside.Stages.{IsTaking, HasTaken, HasFronts}
+use Rattle.spec_workers.specs.Inside.Stages.{HasTaken, HasFronts}
+use Rattle.commit_lock.specs.Passes.{NoneTwice}
 use Rattle.spec_workers.proofs.Holds.{tells_nothing, tells_then}
+use Rattle.spec_workers.proofs.Pigeons.{few_numbers}
 
 abbrev one_if_verdict : Entry → ℕ
 one_if_verdict e = cond {A = ℕ} (is_verdict e.event) 1 0
@@ -128,3 +127,30 @@ more_fronts worker later count next first before after same one so_far step =
       taken = subst (λ (n : ℕ). AreFrontsTaken worker n (so_far.told ++ here.told)) is
           (fronts_more worker count so_far.told here.told so_far.taken here.step);
     }
+
+-- a take has one verdict at most
+take_is_few : (worker rank : ℕ) (told : List Entry) → IsTake worker rank told → verdicts_in told ≤ 1
+take_is_few worker rank told take = ⊎_elim
+    (λ over. let none = ap verdicts_in over in omega (arith, none))
+    (λ tested. let one = tested_is_one worker rank tested.0 _ told refl tested.1 in omega (arith, one))
+    take
+
+-- so there are no more verdicts than ranks taken
+takes_are_few : (worker : ℕ) (ranks : List ℕ) (told : List Entry) → AreTaken worker ranks told → verdicts_in told ≤ length ranks
+takes_are_few worker [] told none = let count = ap verdicts_in none in omega (arith, count)
+takes_are_few worker (rank ∷ ranks) told taken =
+    let first = take_is_few worker rank taken.0 taken.3 in
+    let rest = takes_are_few worker ranks taken.1 taken.4 in
+    let both = ap verdicts_in taken.2 ∙ verdicts_of_both taken.0 taken.1 in
+    omega (arith, first, rest, both)
+
+-- and no more tests than ranks, if each was drawn once
+pub few_taken : (n worker budget made : ℕ) (drawn_before drawn_after : List ℕ) (before after : List Entry)
+    → HasTaken worker budget drawn_before drawn_after before after made
+    → NoneTwice drawn_after → All (λ x. x < n) drawn_after → made ≤ n
+few_taken n worker budget made drawn_before drawn_after before after taken once below =
+    let verdicts = takes_are_few worker taken.draws taken.told taken.taking.taken in
+    let tests = taken.taking.tests in
+    let all = ap (λ (l : List ℕ). length l) taken.drawn ∙ length-append drawn_before taken.draws in
+    let few = few_numbers n drawn_after once below in
+    omega (arith, verdicts, tests, all, few)

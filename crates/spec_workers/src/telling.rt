@@ -9,10 +9,11 @@ ghost use Rattle.commit_lock.specs.Seats.{IsSeatOf, IsIdle, KeepsPlace, number, 
 ghost use Rattle.spec_workers.specs.Books.{lock_case, Tells};
 ghost use Rattle.spec_workers.specs.Turns.{IsVerdictOn};
 ghost use Rattle.spec_workers.specs.Inside.Asked.{IsTakenAt};
+ghost use Rattle.spec_workers.specs.Inside.Fronts.{IsOfFront, IsPast};
 ghost use Rattle.spec_workers.specs.Inside.Grown.{IsGrown};
 
 use crate::locking::{enter, leave, number};
-use commit_book::{Book, Taken, kept_ranks_stay_first};
+use commit_book::{Book, Taken, books_are_sound, kept_ranks_stay_first};
 use commit_lock::{CommitLock, Seat};
 use io_edge::Gate;
 use saturate::{Verdict, test};
@@ -33,11 +34,16 @@ fn tell_book(
         verdict }
     ensures grown { GrowsBy (λ entry. worker_of entry.event) worker book.old.entries
         book.new.entries }
-    ensures told { OnOk result ((told : Entry) × IsVerdictOn worker taken.now.rank taken.now.seen told
+    ensures told { OnOk result ((told : Entry)
+        × IsVerdictOn worker taken.now.rank taken.now.seen told
         × IsGrown worker book.old book.new (told ∷ [])) }
+    ensures moves { OnOk result ((earlier : List Entry) → IsBeginning earlier book.old.entries
+        → IsOfFront book.old.case earlier taken.now
+        → IsPast book.new.case book.new.entries taken.now.rank) }
     ensures refused { OnErr result (IsGrown worker book.old book.new []) }
 {
     kept_ranks_stay_first(book);
+    books_are_sound(book);
     let _ = book.journal();
     book.reserve_turn(alloc)?;
     match verdict {
@@ -72,6 +78,8 @@ pub fn tell<R: Wait>(
     ensures told { OnOk result ((told : Entry)
         × IsVerdictOn (number seat.old) taken.now.rank taken.now.seen told
         × Tells (number seat.old) (seen seat.old) (seen seat.new) (told ∷ [])) }
+    ensures moves { OnOk result (IsOfFront (lock_case lock.now) (seen seat.old) taken.now
+        → IsPast (lock_case lock.now) (seen seat.new) taken.now.rank) }
     ensures refused { OnErr result (Tells (number seat.old) (seen seat.old) (seen seat.new) []) }
 {
     let worker = number(seat);
@@ -100,6 +108,8 @@ pub fn test_and_tell<R: Wait, G: Gate>(
     ensures told { OnOk result ((told : Entry)
         × IsVerdictOn (number seat.old) taken.now.rank taken.now.seen told
         × Tells (number seat.old) (seen seat.old) (seen seat.new) (told ∷ [])) }
+    ensures moves { OnOk result (IsOfFront (lock_case lock.now) (seen seat.old) taken.now
+        → IsPast (lock_case lock.now) (seen seat.new) taken.now.rank) }
     ensures refused { OnErr result (Tells (number seat.old) (seen seat.old) (seen seat.new) []) }
 {
     gate.before_test(number(seat), taken.rank);

@@ -5,6 +5,7 @@ ghost use Rattle.commit_lock.specs.Seats.{IsSeatOf, IsIdle, KeepsPlace, number, 
 ghost use Rattle.spec_workers.specs.Books.{lock_case, ranks_at};
 ghost use Rattle.spec_workers.specs.Inside.Ahead.{IsFoundAhead};
 ghost use Rattle.spec_workers.specs.Inside.Asked.{IsTakenAt};
+ghost use Rattle.spec_workers.specs.Inside.Fronts.{MovesFront};
 ghost use Rattle.spec_workers.specs.Inside.Steps.{IsTurn, IsFrontTurn, IsCut};
 
 use crate::ahead::{Ahead, look, settle, test_ahead, wait_unless_no};
@@ -142,6 +143,7 @@ pub fn front_turn<R: Wait, G: Gate>(
     ensures idle { IsIdle seat.new }
     ensures same { KeepsPlace seat.old seat.new }
     ensures ok { IfOk result (IsFrontTurn (number seat.old) (seen seat.old) (seen seat.new)) }
+    ensures moves { IfOk result (MovesFront (lock_case lock.now) (seen seat.old) (seen seat.new)) }
     ensures err { OnErr result (IsCut (number seat.old) [] (seen seat.old) (seen seat.new)) }
 {
     match ask_front(rt, alloc, lock, seat)? {

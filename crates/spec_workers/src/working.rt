@@ -1,9 +1,10 @@
 //! The work of one worker.
 
-ghost use Rattle.std.specs.Prelude.{◌≡◌, ◌≤◌, ◌<◌, ◌++◌, ℕ, List, All, IfOk, IfErr};
+ghost use Rattle.std.specs.Prelude.{◌≡◌, ◌≤◌, ◌<◌, ◌*◌, ◌++◌, ℕ, List, All, IfOk, IfErr};
 ghost use Rattle.accuse_core.specs.declared.journal.Entry.{Entry};
 ghost use Rattle.commit_lock.specs.Passes.{ranks_of as draw_ranks, IsPassOf, KeepsPass, drawn};
 ghost use Rattle.commit_lock.specs.Seats.{IsSeatOf, IsIdle, KeepsPlace, number, seen};
+ghost use Rattle.spec_workers.specs.declared.types.WorkEnd.{WorkEnd};
 ghost use Rattle.spec_workers.specs.Books.{ranks_at, Tells};
 ghost use Rattle.spec_workers.specs.Turns.{IsWork};
 ghost use Rattle.spec_workers.specs.Inside.Stages.{IsDrawnOut, IsFrontWork};
@@ -41,6 +42,8 @@ fn take_drawn<R: Wait, G: Gate>(
         × (drawn pass.new ≡ drawn pass.old ++ draws)
         × Tells (number seat.old) (seen seat.old) (seen seat.new) told
         × IsDrawnOut (ranks_at lock.now) (number seat.old) budget draws told made) }
+    ensures few { IfOk result (λ made. made ≤ ranks_at lock.now) }
+    ensures few_taken { IfErr result (λ end. end ≡ WorkEnd.Budget → budget ≤ ranks_at lock.now) }
     ensures err { IfErr result (λ end. (draws : List ℕ) × (told : List Entry)
         × (drawn pass.new ≡ drawn pass.old ++ draws)
         × Tells (number seat.old) (seen seat.old) (seen seat.new) told
@@ -80,6 +83,7 @@ fn take_fronts<R: Wait, G: Gate>(
     ensures told { (told : List Entry)
         × Tells (number seat.old) (seen seat.old) (seen seat.new) told
         × IsFrontWork (number seat.old) most told result }
+    ensures few { result ≡ WorkEnd.Budget → most ≤ ranks_at lock.now }
 {
     for _ in 0..most {
         match front_turn(rt, alloc, lock, seat, gate) {
@@ -118,6 +122,7 @@ pub fn work<R: Wait, G: Gate>(
         × (drawn result.pass ≡ drawn pass ++ draws)
         × Tells (number seat) (seen seat) (seen result.seat) told
         × IsWork (ranks_at lock.now) (number seat) budget draws told result.end }
+    ensures enough { result.end ≡ WorkEnd.Budget → budget ≤ 2 * ranks_at lock.now }
 {
     match take_drawn(rt, alloc, lock, &mut seat, draw, &mut pass, gate, budget) {
         Ok(made) => {

@@ -1,9 +1,7 @@
 -- What a worker was given to test, at its place of the journal.
-use Rattle.std.specs.Prelude.{◌≡◌, ℕ, ◌≤◌, ◌<◌, IfSome, Option, List, ◌++◌, ◌∷◌, [], All, take, ⊤}
+use Rattle.std.specs.Prelude.{◌≡◌, ℕ, ◌≤◌, ◌<◌, IfSome, Option, List, All, take, ⊤}
 use Rattle.case_file.specs.Cases.{CaseView}
 use Rattle.commit_lock.specs.Entries.{IsBeginning}
-use Rattle.saturate.specs.declared.types.Verdict.{Verdict}
-use Rattle.saturate.specs.Decisions.{IsVerdict}
 use Rattle.accuse_core.specs.declared.mark.Mark.{Mark}
 use Rattle.accuse_core.specs.declared.journal.Entry.{Entry}
 use Rattle.accuse_core.specs.Marks.{front_of, kept_of, number_kept}

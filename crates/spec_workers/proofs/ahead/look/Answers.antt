@@ -1,4 +1,4 @@
-use Rattle.std.proofs.Common.{◌≡◌, ◌<◌, [], sym, ◌∙◌, append-nil, arith}
+use Rattle.std.proofs.Common.{[], sym, ◌∙◌, append-nil, arith}
 use Rattle.spec_workers.proofs.ahead.look.Goals as goal
 
 pub leave-requires-clause-grown : goal.leave-requires-clause-grown

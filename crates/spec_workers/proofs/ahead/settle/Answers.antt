@@ -1,7 +1,7 @@
-use Rattle.std.proofs.Common.{◌≡◌, ◌++◌, ◌∷◌, [], subst}
+use Rattle.std.proofs.Common.{◌++◌, ◌∷◌, [], subst}
 use Rattle.commit_lock.specs.Seats.{seen}
 use Rattle.saturate.specs.declared.types.Verdict.{Verdict}
-use Rattle.saturate.specs.declared.types.Verdict.TheVariants.{No, Yes}
+use Rattle.saturate.specs.declared.types.Verdict.TheVariants.{Yes}
 use Rattle.saturate.specs.Decisions.{IsVerdict}
 use Rattle.spec_workers.specs.Books.{lock_case}
 use Rattle.spec_workers.proofs.AheadLemmas.{no_holds, yes_holds}

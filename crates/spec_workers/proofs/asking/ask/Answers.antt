@@ -1,8 +1,7 @@
-use Rattle.std.proofs.Common.{◌≡◌, List, [], ◌∷◌, sym, ◌∙◌, subst}
+use Rattle.std.proofs.Common.{List, [], ◌∷◌, sym, ◌∙◌, subst}
 use Rattle.std.proofs.lemmas.Result.{IfOk-weaker}
 use Rattle.accuse_core.specs.declared.event.Event.TheVariants as E
 use Rattle.commit_lock.specs.Seats.{number, seen, entered}
-use Rattle.commit_book.specs.declared.answers.TakeAnswer.{TakeAnswer}
 use Rattle.commit_book.specs.Answers.{take_reply}
 use Rattle.spec_workers.specs.Books.{lock_case, Tells}
 use Rattle.spec_workers.specs.Turns.{entry}

@@ -1,5 +1,5 @@
-use Rattle.std.proofs.Common.{◌≡◌, ◌∙◌, sym, ap, subst}
-use Rattle.std.proofs.Common.{arith, ◌<◌}
+use Rattle.std.proofs.Common.{◌∙◌, sym, subst}
+use Rattle.std.proofs.Common.{◌<◌}
 use Rattle.commit_book.specs.Books.{BookView, ranks_of}
 use Rattle.spec_workers.proofs.GivenTakes.{given_take, keeps_first}
 use Rattle.spec_workers.proofs.asking.take.Goals as goal

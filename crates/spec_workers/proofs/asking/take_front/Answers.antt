@@ -1,4 +1,4 @@
-use Rattle.std.proofs.Common.{◌≡◌, ◌∙◌, sym}
+use Rattle.std.proofs.Common.{◌∙◌, sym}
 use Rattle.spec_workers.proofs.GivenTakes.{given_front}
 use Rattle.spec_workers.proofs.asking.take_front.Goals as goal
 

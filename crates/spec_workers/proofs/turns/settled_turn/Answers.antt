@@ -1,4 +1,4 @@
-use Rattle.std.proofs.Common.{◌≡◌, [], ◌∷◌, subst}
+use Rattle.std.proofs.Common.{[], ◌∷◌, subst}
 use Rattle.accuse_core.specs.declared.event.Event.TheVariants.{Take}
 use Rattle.commit_lock.specs.Seats.{number, seen}
 use Rattle.commit_book.specs.declared.answers.TakeAnswer.{TakeAnswer}

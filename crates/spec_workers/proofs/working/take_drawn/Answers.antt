@@ -2,7 +2,7 @@ use Rattle.std.proofs.Common.{◌≡◌, ◌∙◌, ◌<◌, ◌≤◌, ◌+◌,
 use Rattle.std.proofs.lemmas.List.Elements.{All-push}
 use Rattle.commit_lock.specs.Passes.{ranks_of, drawn}
 use Rattle.commit_lock.specs.Seats.{number, seen}
-use Rattle.spec_workers.proofs.StageLemmas.{nothing_taken, more_taken}
+use Rattle.spec_workers.proofs.StageLemmas.{nothing_taken, more_taken, few_taken}
 use Rattle.spec_workers.proofs.working.take_drawn.Goals as goal
 
 pub loop-init : goal.loop-init
@@ -13,6 +13,7 @@ loop-init g c = record {
   word = c.requires.word;
   pass = (refl, refl);
   not_over = c.requires.not_over;
+  few = omega arith;
   taken = nothing_taken (number c.args.seat.now) c.args.budget (drawn c.args.pass.now) (seen c.args.seat.now);
 }
 
@@ -28,17 +29,22 @@ loop-preserved-in-Ok-true g c =
     let less = c.if-made-budget.false in
     let few : c.loop.made + 1 ≤ c.args.budget = omega (arith, within, less) in
     let count = ap (λ (b : Bool). c.loop.made + cond {A = ℕ} b 1 0) (sym c.in-Ok-true.field-0-test) in
+    let not_over = subst (λ (l : List ℕ). All (λ x. x < ranks_of c.args.draw.now) l) (sym drew)
+    (All-push (λ x. x < ranks_of c.args.draw.now) (drawn c.loop.pass) rank was.not_over c.in-Some-draw.ensures.below) in
+    let taken = more_taken (number c.args.seat.now) (number before) c.args.budget rank c.loop.made (c.loop.made + 1) c.in-Ok-true.field-0
+    (drawn c.args.pass.now) (drawn c.loop.pass) (drawn c.draw.new.pass) (seen c.args.seat.now) (seen before) (seen after)
+    was.same.0 count few was.taken drew c.in-Ok-true.ensures.ok in
     record {
       lock = c.take_turn.ensures.lock;
       idle = c.take_turn.ensures.idle;
       same = (same.0 ∙ was.same.0, same.1 ∙ was.same.1, same.2 ∙ was.same.2);
       word = c.draw.ensures.word;
       pass = (c.draw.ensures.same.0 ∙ was.pass.0, c.draw.ensures.same.1 ∙ was.pass.1);
-      not_over = subst (λ (l : List ℕ). All (λ x. x < ranks_of c.args.draw.now) l) (sym drew)
-          (All-push (λ x. x < ranks_of c.args.draw.now) (drawn c.loop.pass) rank was.not_over c.in-Some-draw.ensures.below);
-      taken = more_taken (number c.args.seat.now) (number before) c.args.budget rank c.loop.made (c.loop.made + 1) c.in-Ok-true.field-0
-          (drawn c.args.pass.now) (drawn c.loop.pass) (drawn c.draw.new.pass) (seen c.args.seat.now) (seen before) (seen after)
-          was.same.0 count few was.taken drew c.in-Ok-true.ensures.ok;
+      not_over = not_over;
+      few = few_taken (ranks_of c.args.draw.now) (number c.args.seat.now) c.args.budget (c.loop.made + 1)
+          (drawn c.args.pass.now) (drawn c.draw.new.pass) (seen c.args.seat.now) (seen after)
+          taken c.draw.ensures.none_twice not_over;
+      taken = taken;
     }
 
 pub loop-preserved : goal.loop-preserved
@@ -59,6 +65,7 @@ loop-preserved g c =
       pass = (c.draw.ensures.same.0 ∙ was.pass.0, c.draw.ensures.same.1 ∙ was.pass.1);
       not_over = subst (λ (l : List ℕ). All (λ x. x < ranks_of c.args.draw.now) l) (sym drew)
           (All-push (λ x. x < ranks_of c.args.draw.now) (drawn c.loop.pass) rank was.not_over c.in-Some-draw.ensures.below);
+      few = was.few;
       taken = more_taken (number c.args.seat.now) (number before) c.args.budget rank c.loop.made c.loop.made c.in-Ok-false.field-0
           (drawn c.args.pass.now) (drawn c.loop.pass) (drawn c.draw.new.pass) (seen c.args.seat.now) (seen before) (seen after)
           was.same.0 count was.taken.taking.within was.taken drew c.in-Ok-false.ensures.ok;

@@ -1,4 +1,3 @@
-use Rattle.std.proofs.Common.{◌≡◌}
 use Rattle.commit_lock.specs.Passes.{drawn}
 use Rattle.commit_lock.specs.Seats.{number, seen}
 use Rattle.spec_workers.specs.Books.{ranks_at}
