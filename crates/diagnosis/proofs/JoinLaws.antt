@@ -1,5 +1,5 @@
 -- Parts that are joined one after another.
-use Rattle.std.proofs.Common.{◌≡◌, ◌≢◌, ◌∙◌, ℕ, zero, suc, ◌+◌, ◌<◌, List, [], ◌∷◌, ◌++◌, length, refl, sym, ap, arith}
+use Rattle.std.proofs.Common.{◌≡◌, ◌≢◌, ◌∙◌, ℕ, zero, suc, ◌+◌, List, [], ◌∷◌, ◌++◌, length, refl, sym, ap, arith}
 use Rattle.std.specs.List.{All}
 use Rattle.std.proofs.lemmas.List.{append_assoc, append-nil, length-append}
 use Rattle.std.proofs.lemmas.List.Elements.{All-push, All-weaker}
@@ -12,7 +12,7 @@ use Rattle.spec_workers.specs.declared.types.WorkEnd.TheVariants.{OutOfMemory}
 use Rattle.spec_workers.specs.Books.{BookLock}
 use Rattle.spec_workers.proofs.Holds.{begins_through}
 use Rattle.diagnosis.specs.declared.parts.Part.{Part}
-use Rattle.diagnosis.specs.Inside.Parts.{IsPartOf, IsBack, seats_in, passes_in, drawn_by, HasSeen, HasJoined}
+use Rattle.diagnosis.specs.Inside.Parts.{IsPartOf, IsBack, drawn_by, HasSeen, HasJoined}
 
 -- a fact of the first element and of the rest
 pub all_cons : {X : Type 0} (P : X → Type 0) (first : X) (rest : List X) → P first → All P rest → All P (first ∷ rest)
@@ -68,8 +68,8 @@ module _ (lock : BookLock) (word : DrawWord) where
       → HasJoined lock word (some ++ worked ∷ []) first last
   joined_more some worked first between last before one =
       let told : All (HasSeen last) some = All-weaker (HasSeen between) (HasSeen last)
-          (λ other saw. (begins_through (seen other.seat) (seen between.seat) (seen last.seat) saw.0 one.kept, saw.1))
-          some before.told in
+      (λ other saw. (begins_through (seen other.seat) (seen between.seat) (seen last.seat) saw.0 one.kept, saw.1))
+      some before.told in
       let seats = one.seats in
       let passes = one.passes in
       let seats_before = before.seats in

@@ -1,12 +1,11 @@
 -- The parts of the workers, from the first split to the last join.
-use Rattle.std.proofs.Common.{◌≡◌, ◌≢◌, ◌∙◌, ℕ, ◌+◌, ◌-◌, ◌^◌, ◌<◌, ◌≤◌, List, [], ◌∷◌, ◌++◌, length, refl, sym, ap, subst, arith}
+use Rattle.std.proofs.Common.{◌≡◌, ◌∙◌, ℕ, ◌+◌, ◌≤◌, List, ◌++◌, length, refl, sym, ap, subst, arith}
 use Rattle.std.specs.List.{All}
 use Rattle.accuse_core.specs.declared.journal.Entry.{Entry}
-use Rattle.case_file.specs.Cases.{CaseView}
 use Rattle.commit_book.specs.Books.{BookView, ranks_of}
 use Rattle.commit_lock.specs.declared.draw_word.DrawWord.{DrawWord}
-use Rattle.commit_lock.specs.Passes.{IsPassOf, KeepsPass, IsWholePass, drawn}
-use Rattle.commit_lock.specs.Seats.{IsSeatOf, IsIdle, KeepsPlace, IsWholeSeat, number, seen}
+use Rattle.commit_lock.specs.Passes.{KeepsPass, IsWholePass, drawn}
+use Rattle.commit_lock.specs.Seats.{KeepsPlace, IsWholeSeat, number, seen}
 use Rattle.spec_workers.specs.declared.types.Worked.{Worked}
 use Rattle.spec_workers.specs.Books.{BookLock, ranks_at, own_of, Tells}
 use Rattle.spec_workers.specs.Turns.{IsWork}
@@ -55,10 +54,10 @@ module _ (lock : BookLock) (word : DrawWord) where
       let one = fresh.one in
       let drawn_is : drawn worked.pass ≡ draws = drew ∙ ap (λ (l : List ℕ). l ++ draws) fresh.undrawn in
       let own_is : own_of (number part.seat) (seen worked.seat) ≡ told =
-          tells.own ∙ ap (λ (l : List Entry). l ++ told) fresh.told in
+      tells.own ∙ ap (λ (l : List Entry). l ++ told) fresh.told in
       let here : IsWork n (number part.seat) budget (drawn worked.pass) (own_of (number part.seat) (seen worked.seat)) worked.end =
-          subst (λ (d : List ℕ). IsWork n (number part.seat) budget d (own_of (number part.seat) (seen worked.seat)) worked.end) (sym drawn_is)
-          (subst (λ (t : List Entry). IsWork n (number part.seat) budget draws t worked.end) (sym own_is) work) in
+      subst (λ (d : List ℕ). IsWork n (number part.seat) budget d (own_of (number part.seat) (seen worked.seat)) worked.end) (sym drawn_is)
+      (subst (λ (t : List Entry). IsWork n (number part.seat) budget draws t worked.end) (sym own_is) work) in
       record {
         back = (is, (omega (arith, one, seat), omega (arith, one, pass)));
         other = λ none. fresh.other (sym seat.0 ∙ none);

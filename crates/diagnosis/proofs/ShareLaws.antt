@@ -1,5 +1,5 @@
 -- Why the workers have done their share.
-use Rattle.std.proofs.Common.{◌≡◌, ◌≢◌, ◌∙◌, ◌==◌, ◌⊎◌, ℕ, zero, suc, ◌+◌, ◌<◌, ◌≤◌, Bool, true, false, not, cond, List, [], ◌∷◌, ◌++◌, length, refl, sym, ap, subst, arith, ⊎_elim, inl, inr, eq-eqb, ne_eqb, lt_of_not-le, Contains}
+use Rattle.std.proofs.Common.{◌≡◌, ◌≢◌, ◌∙◌, ◌==◌, ◌⊎◌, ℕ, zero, suc, ◌<◌, ◌≤◌, Bool, true, false, not, cond, List, [], ◌∷◌, ◌++◌, length, refl, sym, ap, subst, arith, ⊎_elim, inl, inr, eq-eqb, ne_eqb, lt_of_not-le, Contains}
 use Rattle.std.specs.List.{All}
 use Rattle.std.proofs.lemmas.Bool.{cases_Bool, eqb-true}
 use Rattle.std.proofs.lemmas.List.Sums.{sum_by-cons}
@@ -75,18 +75,18 @@ module _ (worker : ℕ) (other : worker ≢ 0) where
   own_in_others [] e there = there
   own_in_others (x ∷ xs) e there = ⊎_elim
       (λ (own : (by x == worker) ≡ true).
-          rw (own_is_other x own)
-          (⊎_elim
-              (λ (first : Contains (x ∷ []) e). Contains-append_left (x ∷ []) (others_of xs) e first)
-              (λ rest. later x (others_of xs) e (own_in_others xs e rest))
-              (Contains-append_cases (x ∷ []) (own_of worker xs) e
-              (subst (λ (b : Bool). Contains (cond {A = List Entry} b (x ∷ own_of worker xs) (own_of worker xs)) e) own there))))
+      rw (own_is_other x own)
+      (⊎_elim
+      (λ (first : Contains (x ∷ []) e). Contains-append_left (x ∷ []) (others_of xs) e first)
+      (λ rest. later x (others_of xs) e (own_in_others xs e rest))
+      (Contains-append_cases (x ∷ []) (own_of worker xs) e
+      (subst (λ (b : Bool). Contains (cond {A = List Entry} b (x ∷ own_of worker xs) (own_of worker xs)) e) own there))))
       (λ (not_own : (by x == worker) ≡ false).
-          let rest = own_in_others xs e (subst (λ (b : Bool). Contains (cond {A = List Entry} b (x ∷ own_of worker xs) (own_of worker xs)) e) not_own there) in
-          ⊎_elim
-          (λ (kept : not (by x == 0) ≡ true). rw kept (later x (others_of xs) e rest))
-          (λ (dropped : not (by x == 0) ≡ false). rw dropped rest)
-          (cases_Bool (not (by x == 0))))
+      let rest = own_in_others xs e (subst (λ (b : Bool). Contains (cond {A = List Entry} b (x ∷ own_of worker xs) (own_of worker xs)) e) not_own there) in
+      ⊎_elim
+      (λ (kept : not (by x == 0) ≡ true). rw kept (later x (others_of xs) e rest))
+      (λ (dropped : not (by x == 0) ≡ false). rw dropped rest)
+      (cases_Bool (not (by x == 0))))
       (cases_Bool (by x == worker))
 
   -- a worker's own entries have no more verdicts than those of the other workers
@@ -99,9 +99,9 @@ module _ (worker : ℕ) (other : worker ≢ 0) where
       ⊎_elim
       (λ (own : (by x == worker) ≡ true). rw (own, own_is_other x own) (omega (arith, rest, more_own, more_others)))
       (λ (not_own : (by x == worker) ≡ false). ⊎_elim
-          (λ (kept : not (by x == 0) ≡ true). rw (not_own, kept) (omega (arith, rest, more_others)))
-          (λ (dropped : not (by x == 0) ≡ false). rw (not_own, dropped) rest)
-          (cases_Bool (not (by x == 0))))
+      (λ (kept : not (by x == 0) ≡ true). rw (not_own, kept) (omega (arith, rest, more_others)))
+      (λ (dropped : not (by x == 0) ≡ false). rw (not_own, dropped) rest)
+      (cases_Bool (not (by x == 0))))
       (cases_Bool (by x == worker))
 
 -- a rank that is taken among some entries is taken among more
@@ -117,11 +117,11 @@ take_is_taken : (worker rank : ℕ) (told : List Entry) → IsTake worker rank t
 take_is_taken worker rank told take = ⊎_elim
     (λ over. inl (subst (λ (l : List Entry). Contains l (entry (Take worker rank) Over)) (sym over) (0, omega arith, refl)))
     (λ tested.
-        let asked = entry (Take worker rank) (Seen tested.0) in
-        let verdict = tested.1.0 in
-        let two : List Entry = asked ∷ verdict ∷ [] in
-        let here : IsTakenBy worker rank two = inr (tested.0, verdict, (0, omega arith, refl), tested.1.1, (1, omega arith, refl)) in
-        subst (IsTakenBy worker rank) (sym tested.1.2) here)
+    let asked = entry (Take worker rank) (Seen tested.0) in
+    let verdict = tested.1.0 in
+    let two : List Entry = asked ∷ verdict ∷ [] in
+    let here : IsTakenBy worker rank two = inr (tested.0, verdict, (0, omega arith, refl), tested.1.1, (1, omega arith, refl)) in
+    subst (IsTakenBy worker rank) (sym tested.1.2) here)
     take
 
 -- each of the ranks is taken
@@ -132,14 +132,14 @@ all_taken worker (r ∷ rs) told rank taken there =
     let first = taken.0 in
     let rest = taken.1 in
     let whole : IsTakenBy worker rank (first ++ rest) = ⊎_elim
-        (λ (here : Contains (r ∷ []) rank).
-            let same : r ≡ rank = only_one r rank here in
-            taken_within worker rank first (first ++ rest) (λ e at. Contains-append_left first rest e at)
-            (subst (λ (x : ℕ). IsTakenBy worker x first) same (take_is_taken worker r first taken.3)))
-        (λ (further : Contains rs rank). taken_within worker rank rest (first ++ rest)
-            (λ e at. Contains-append_right first rest e at)
-            (all_taken worker rs rest rank taken.4 further))
-        (Contains-append_cases (r ∷ []) rs rank there) in
+    (λ (here : Contains (r ∷ []) rank).
+    let same : r ≡ rank = only_one r rank here in
+    taken_within worker rank first (first ++ rest) (λ e at. Contains-append_left first rest e at)
+    (subst (λ (x : ℕ). IsTakenBy worker x first) same (take_is_taken worker r first taken.3)))
+    (λ (further : Contains rs rank). taken_within worker rank rest (first ++ rest)
+    (λ e at. Contains-append_right first rest e at)
+    (all_taken worker rs rest rank taken.4 further))
+    (Contains-append_cases (r ∷ []) rs rank there) in
     subst (IsTakenBy worker rank) (sym taken.2) whole
 
 -- what is in a list stands there at least once
@@ -162,8 +162,8 @@ found (y ∷ ys) x some =
     ⊎_elim
     (λ (same : (y == x) ≡ true). (0, omega arith, eqb-true y x same))
     (λ (apart : (y == x) ≡ false).
-        let none = ap (λ (b : Bool). cond {A = ℕ} b 1 0) apart in
-        later y ys x (found ys x (omega (arith, one, none, some))))
+    let none = ap (λ (b : Bool). cond {A = ℕ} b 1 0) apart in
+    later y ys x (found ys x (omega (arith, one, none, some))))
     (cases_Bool (y == x))
 
 -- what one of the workers drew is in all that they drew
@@ -184,7 +184,7 @@ drawn_by_one [] rank there = absurd (omega (arith, there.1))
 drawn_by_one (w ∷ ws) rank there = ⊎_elim
     (λ (here : Contains (drawn w.pass) rank). (w, (0, omega arith, refl), here))
     (λ (further : Contains (drawn_by ws) rank).
-        let one = drawn_by_one ws rank further in (one.0, later w ws one.0 one.1, one.2))
+    let one = drawn_by_one ws rank further in (one.0, later w ws one.0 one.1, one.2))
     (Contains-append_cases (drawn w.pass) (drawn_by ws) rank there)
 
 abbrev IsAtBudget : List Worked → Type 0
@@ -203,9 +203,9 @@ ends [] some = inr (λ k d within. absurd (omega arith))
 ends (w ∷ ws) some = ⊎_elim
     (λ budget. inl (w, (0, omega arith, refl), budget))
     (λ done. ⊎_elim
-        (λ (one : IsAtBudget ws). inl (one.0, later w ws one.0 one.1, one.2))
-        (λ rest. inr (all_cons (λ (x : Worked). x.end ≡ Done) w ws done rest))
-        (ends ws (λ k d within. some (suc k) d (omega arith))))
+    (λ (one : IsAtBudget ws). inl (one.0, later w ws one.0 one.1, one.2))
+    (λ rest. inr (all_cons (λ (x : Worked). x.end ≡ Done) w ws done rest))
+    (ends ws (λ k d within. some (suc k) d (omega arith))))
     (one_end w.end (some 0 w (omega arith)))
 
 module _ (n : ℕ) (before after : List Entry) (begins : IsBeginning before after) where
@@ -215,9 +215,11 @@ module _ (n : ℕ) (before after : List Entry) (begins : IsBeginning before afte
       let others = others_begin before after begins in
       ⊎_elim
       (λ verdicts. let more = verdicts_grow (others_of before) (others_of after) others in inl (omega (arith, verdicts, more)))
-      (λ taken. inr (λ rank inside. let one = taken rank inside in
-          (one.0, taken_within one.0 rank (others_of before) (others_of after)
-          (λ e at. in_beginning (others_of before) (others_of after) e others at) one.1)))
+      (λ taken. inr (λ rank inside. let one = taken rank inside in (
+        one.0,
+        taken_within one.0 rank (others_of before) (others_of after)
+            (λ e at. in_beginning (others_of before) (others_of after) e others at) one.1,
+      )))
       share
 
 module _ (lock : BookLock) (word : DrawWord) (n : ℕ) (all : List Worked) (first last : Part)
@@ -243,7 +245,7 @@ module _ (lock : BookLock) (word : DrawWord) (n : ℕ) (all : List Worked) (firs
       let has = work_of worked at in
       let told = own_of (number worked.seat) (seen worked.seat) in
       let is : IsEnd (ranks_at lock) (number worked.seat) n (drawn worked.pass) told Budget =
-          subst (λ (e : WorkEnd). IsEnd (ranks_at lock) (number worked.seat) n (drawn worked.pass) told e) end has.work.ends in
+      subst (λ (e : WorkEnd). IsEnd (ranks_at lock) (number worked.seat) n (drawn worked.pass) told e) end has.work.ends in
       let own = own_verdicts (number worked.seat) has.other (seen worked.seat) in
       let grown = verdicts_grow (others_of (seen worked.seat)) (others_of (seen last.seat)) (others_begin (seen worked.seat) (seen last.seat) saw.0) in
       let tests = is.1 in
@@ -271,17 +273,17 @@ module _ (lock : BookLock) (word : DrawWord) (n : ℕ) (all : List Worked) (firs
         let takes = is.takes in
         ⊎_elim
         (λ (mine : Contains is.ranks rank).
-            taken_within (number worked.seat) rank takes (others_of (seen last.seat))
-            (λ e here. told_in worked at e
-                (subst (λ (l : List Entry). Contains l e) (sym front.1)
-                (Contains-append_left front.0 (entry (TakeFront (number worked.seat)) AllDone ∷ []) e
-                (subst (λ (l : List Entry). Contains l e) (sym is.told)
-                (Contains-append_left takes is.fronts e here)))))
-            (all_taken (number worked.seat) is.ranks takes rank is.taken mine))
+        taken_within (number worked.seat) rank takes (others_of (seen last.seat))
+        (λ e here. told_in worked at e
+        (subst (λ (l : List Entry). Contains l e) (sym front.1)
+        (Contains-append_left front.0 (entry (TakeFront (number worked.seat)) AllDone ∷ []) e
+        (subst (λ (l : List Entry). Contains l e) (sym is.told)
+        (Contains-append_left takes is.fronts e here)))))
+        (all_taken (number worked.seat) is.ranks takes rank is.taken mine))
         (λ (none : Contains (is.past ∷ []) rank).
-            let same : is.past ≡ rank = only_one is.past rank none in
-            let past = is.none in
-            absurd (omega (arith, same, past, inside)))
+        let same : is.past ≡ rank = only_one is.past rank none in
+        let past = is.none in
+        absurd (omega (arith, same, past, inside)))
         (Contains-append_cases is.ranks (is.past ∷ []) rank
         (subst (λ (l : List ℕ). Contains l rank) is.drawn there))
 
@@ -293,13 +295,13 @@ module _ (lock : BookLock) (word : DrawWord) (n : ℕ) (all : List Worked) (firs
         let draws : drawn last.pass ≡ drawn_by all = joined.draws ∙ ap (λ (l : List ℕ). l ++ drawn_by all) none in
         let front = (at_front one at).2 in
         let past_there : Contains (drawn one.pass) front.past =
-            subst (λ (l : List ℕ). Contains l front.past) (sym front.drawn)
-            (Contains-append_right front.ranks (front.past ∷ []) front.past (0, omega arith, refl)) in
+        subst (λ (l : List ℕ). Contains l front.past) (sym front.drawn)
+        (Contains-append_right front.ranks (front.past ∷ []) front.past (0, omega arith, refl)) in
         let past_drawn : Contains (drawn last.pass) front.past =
-            subst (λ (l : List ℕ). Contains l front.past) (sym draws) (draws_in all one front.past at past_there) in
+        subst (λ (l : List ℕ). Contains l front.past) (sym draws) (draws_in all one front.past at past_there) in
         let once = counted (drawn last.pass) front.past past_drawn in
         let below : front.past < length (drawn last.pass) =
-            lt_of_not-le (λ (over : length (drawn last.pass) ≤ front.past). let no = each.1 front.past over in absurd (omega (arith, no, once))) in
+        lt_of_not-le (λ (over : length (drawn last.pass) ≤ front.past). let no = each.1 front.past over in absurd (omega (arith, no, once))) in
         let past = front.none in
         let times_one = each.0 rank (omega (arith, below, past, inside)) in
         let there = found (drawn last.pass) rank (omega (arith, times_one)) in

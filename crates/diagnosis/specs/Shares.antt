@@ -1,5 +1,5 @@
 -- The share of the workers in the entries of a journal.
-use Rattle.std.specs.Prelude.{◌≡◌, ◌==◌, ◌⊎◌, ℕ, ◌<◌, ◌≤◌, List, filter, not, Contains}
+use Rattle.std.specs.Prelude.{◌==◌, ◌⊎◌, ℕ, ◌<◌, ◌≤◌, List, filter, not, Contains}
 use Rattle.accuse_core.specs.declared.event.Event.TheVariants.{Take}
 use Rattle.accuse_core.specs.declared.event.Reply.TheVariants.{Over, Seen}
 use Rattle.accuse_core.specs.declared.journal.Entry.{Entry}
@@ -15,7 +15,7 @@ others_of entries = filter (λ (entry : Entry). not (worker_of entry.event == 0)
 abbrev pub IsTakenBy : ℕ → ℕ → List Entry → Type 0
 IsTakenBy worker rank entries = Contains entries (entry (Take worker rank) Over)
     ⊎ ((seen : ℕ) × (verdict : Entry) × Contains entries (entry (Take worker rank) (Seen seen))
-        × IsVerdictOn worker rank seen verdict × Contains entries verdict)
+    × IsVerdictOn worker rank seen verdict × Contains entries verdict)
 
 -- a worker other than worker 0 takes the rank
 abbrev pub IsTakenByAnother : List Entry → ℕ → Type 0

@@ -22,12 +22,12 @@ use commit_book::Book;
 use commit_lock::{CommitLock, DrawWord, Seat};
 use finish_book::finish;
 use io_edge::Gate;
-use step_count::Steps;
 use std::alloc::{AllocError, Global};
 use std::marker::Brand;
 use std::sync::ledger::{Blank, Ledger};
 use std::sync::{Arc, Wait};
 use std::thread::Threads;
+use step_count::Steps;
 
 // A lock round a book, a word from which its ranks are drawn, and the first part in both.
 fn opened(

@@ -1,6 +1,5 @@
 -- The parts that workers have in a lock and a draw word.
 use Rattle.std.specs.Prelude.{◌≡◌, ◌≢◌, ℕ, ◌+◌, ◌-◌, ◌^◌, ◌<◌, List, [], ◌∷◌, ◌++◌, All, length}
-use Rattle.accuse_core.specs.declared.journal.Entry.{Entry}
 use Rattle.commit_book.specs.Books.{BookView}
 use Rattle.commit_lock.specs.declared.draw_word.DrawWord.{DrawWord}
 use Rattle.commit_lock.specs.Entries.{IsBeginning}

@@ -1,4 +1,4 @@
-use Rattle.std.proofs.Common.{◌≡◌, ℕ, ap, subst}
+use Rattle.std.proofs.Common.{ℕ, ap, subst}
 use Rattle.std.proofs.lemmas.Result.{IfOk-weaker}
 use Rattle.commit_book.specs.Books.{BookView, ranks_of}
 use Rattle.finish_book.specs.Finishing.{IsFinishedBy}

@@ -14,9 +14,9 @@ returns-clause-shared g c =
     let n = ranks_of c.args.book.case in
     let ranks : c.ranks-ranks.result ≡ n = search rules in
     let share : IsShared n (seen last.seat) =
-        share_of_all c.in_ok-lock.lock c.in_ok-lock.word c.args.book c.args.workers c.in_ok-all.all.items first c.split_parts.new.first last
-        c.in_ok-lock.ensures c.in_ok-parts.ensures.left c.in_ok-join_parts.ensures (search rules)
-        c.ranks-ranks.result ranks c.requires.workers.0 c.in_ok-all.ensures.worked in
+    share_of_all c.in_ok-lock.lock c.in_ok-lock.word c.args.book c.args.workers c.in_ok-all.all.items first c.split_parts.new.first last
+    c.in_ok-lock.ensures c.in_ok-parts.ensures.left c.in_ok-join_parts.ensures (search rules)
+    c.ranks-ranks.result ranks c.requires.workers.0 c.in_ok-all.ensures.worked in
     IfOk-weaker c.closed.result (λ (after : BookView). after.entries ≡ seen last.seat) (λ (after : BookView). IsShared n after.entries)
     (λ after same. subst (λ (l : List Entry). IsShared n l) (sym same) share)
     c.closed.ensures.entries
